@@ -1,0 +1,37 @@
+-- How every call answers: by the first refusal on its list whose test holds, or by what it is for.
+use mathlib.Core.Path.{_≡_}
+use mathlib.Core.Logic.{_≢_}
+use mathlib.Core.Bool.{Bool, cond}
+use mathlib.Core.List.{List, [], _∷_, _++_}
+use Prim.Native.Nat.{ℕ, zero, suc}
+
+-- "no. | when": an answer number, and the test under which a call answers it
+pub record Refusal : Type 0 where
+  pub number : ℕ
+  pub test : Bool
+
+infix 20 _if_
+abbrev pub _if_ : ℕ → Bool → Refusal
+n if t = record { number = n; test = t }
+
+-- "Order for every call": the number of the first refusal whose test holds; "0 | done" where none holds
+unfoldable pub firstRefusal : List Refusal → ℕ
+firstRefusal [] = 0
+firstRefusal (r ∷ rest) = cond (r .test) (r .number) (firstRefusal rest)
+
+-- one list after another
+infixr 15 _then_
+unfoldable pub _then_ : List Refusal → List Refusal → List Refusal
+l then m = l ++ m
+
+-- "the first faulty pair": the lists of the numbers below n, one after another
+unfoldable pub eachBelow : ℕ → (ℕ → List Refusal) → List Refusal
+eachBelow zero list = []
+eachBelow (suc n) list = eachBelow n list then list n
+
+-- "Each public call's contract determines the answer and every lent byte, number and tally afterwards": a result holds all of
+-- these. "Every refusal changes no lent byte, number or tally. Every other number in its answer .. is 0": `refused n` is the
+-- result of a refusal by n. `Done` says which results are right where nothing is refused.
+pub record Outcome {R : Type 0} (refusals : List Refusal) (refused : ℕ → R) (Done : R → Type 0) (result : R) : Type 0 where
+  pub refusal : firstRefusal refusals ≢ 0 → result ≡ refused (firstRefusal refusals)
+  pub done : firstRefusal refusals ≡ 0 → Done result

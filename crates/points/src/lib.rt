@@ -1,0 +1,1 @@
+// The worked points of document 01, proved from the specification. It has no code.
