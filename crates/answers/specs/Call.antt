@@ -4,6 +4,7 @@ use mathlib.Core.Logic.{_≢_}
 use mathlib.Core.Bool.{Bool, cond}
 use mathlib.Core.List.{List, [], _∷_, _++_}
 use Prim.Native.Nat.{ℕ, zero, suc}
+use Rattle.answers.specs.declared.Told.{Told}
 
 -- "no. | when": an answer number, and the test under which a call answers it
 pub record Refusal : Type 0 where
@@ -35,3 +36,15 @@ eachBelow (suc n) list = eachBelow n list then list n
 pub record Outcome {R : Type 0} (refusals : List Refusal) (refused : ℕ → R) (Done : R → Type 0) (result : R) : Type 0 where
   pub refusal : firstRefusal refusals ≢ 0 → result ≡ refused (firstRefusal refusals)
   pub done : firstRefusal refusals ≡ 0 → Done result
+
+-- an answer number and its one value: "Every other number in its answer .. is 0; so is a number with nothing to tell"
+abbrev pub told : ℕ → ℕ → Told
+told n v = record { answer = n; value = v }
+
+-- a refusal of a call that writes one buffer
+abbrev pub left : List ℕ → ℕ → ℕ × List ℕ
+left before n = (n, before)
+
+-- a refusal of a call that tells one value and writes one buffer
+abbrev pub toldAndLeft : List ℕ → ℕ → Told × List ℕ
+toldAndLeft before n = (told n 0, before)

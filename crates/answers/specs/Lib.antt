@@ -4,3 +4,4 @@ pub mod Call
 pub mod Rows
 pub mod Sheet
 pub mod Refusals
+pub mod Part

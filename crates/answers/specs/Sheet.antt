@@ -4,7 +4,7 @@ use mathlib.Core.Logic.{_⊎_}
 use mathlib.Core.List.{List, []}
 use Prim.Native.Nat.{ℕ, _+_, _*_, _≤_, _<_}
 use lib.ListN.{length, getD, take}
-pub use Rattle.answers.specs.declared.Counts.{Counts}
+use Rattle.answers.specs.declared.Counts.{Counts}
 use Rattle.answers.specs.Rows.{at}
 use Rattle.answers.specs.Sizes.{mostSubjects, mostObjects, mostRoles, mostSeparations}
 

@@ -6,3 +6,9 @@ pub struct Counts {
     pub objects: usize,
     pub roles: usize,
 }
+
+// An answer number and the one value that goes with it: 0 on a refusal, and where there is nothing to tell.
+pub struct Told {
+    pub answer: u8,
+    pub value: usize,
+}

@@ -1,0 +1,62 @@
+-- Laws of channels, over any assignment and whatever a role holds.
+use Prim.Native.Nat.{ℕ, _+_, _-_, _≤_, _<_}
+use mathlib.Core.Path.{_≡_, refl, subst}
+use mathlib.Core.Logic.{_⊎_, inl, inr}
+use native.Mathlib.Omega.{arith}
+use Rattle.answers.specs.declared.Counts.{Counts}
+use Rattle.answers.specs.Sheet.{entities, objectEntity}
+use Rattle.theory.specs.Flow.{Flow, here, step}
+use Rattle.theory.proofs.Flows.{Has, Inside}
+use Rattle.access.specs.Channel.{read, write, Grants, May, ChannelOf, reads, writes}
+
+-- the two entities are a subject and an object
+abbrev pub TwoSided : Counts → ℕ → ℕ → Type 0
+TwoSided c x y =
+    ((x < c .subjects) × (c .subjects ≤ y) × (y < entities c)) ⊎ ((y < c .subjects) × (c .subjects ≤ x) × (x < entities c))
+
+module _ {c : Counts} {assigned : ℕ → ℕ → Type 0} {held : ℕ → ℕ → ℕ → Type 0} where
+  -- channels join subjects and objects only
+  pub two-sided : {x y : ℕ} → ChannelOf c assigned held x y → TwoSided c x y
+  two-sided (reads o l e h m) = inr (h, omega arith, omega arith)
+  two-sided (writes o l h e m) = inl (h, omega arith, omega arith)
+
+  -- and entities below N only
+  pub channel-inside : Inside (entities c) (ChannelOf c assigned held)
+  channel-inside x y (reads o l e h m) = (omega arith, omega arith)
+  channel-inside x y (writes o l h e m) = (omega arith, omega arith)
+
+  -- by its sides
+  pub by-write : {x y : ℕ} → x < c .subjects → ChannelOf c assigned held x y → May c assigned held write x (y - c .subjects)
+  by-write h (reads o l e k m) = absurd (omega arith)
+  by-write {x} {y} h (writes o l k e m) =
+      let f : o ≡ y - c .subjects = omega arith in
+      subst (λ (p : ℕ). May c assigned held write x p) f m
+
+  pub by-read : {x y : ℕ} → y < c .subjects → ChannelOf c assigned held x y → May c assigned held read y (x - c .subjects)
+  by-read h (writes o l k e m) = absurd (omega arith)
+  by-read {x} {y} h (reads o l e k m) =
+      let f : o ≡ x - c .subjects = omega arith in
+      subst (λ (p : ℕ). May c assigned held read y p) f m
+
+  -- a role that no subject has makes no channel
+  pub nobody's-role : (r : ℕ) → ((s : ℕ) → s < c .subjects → assigned s r → ⊥) → (wanted s o : ℕ) → s < c .subjects → Grants c assigned held wanted s o r → ⊥
+  nobody's-role r nobody wanted s o h g = nobody s h (g .has-role)
+
+  -- a subject that has a role reading o and another role writing p carries o to p
+  pub carries : (s o p q r : ℕ) → s < c .subjects → o < c .objects → p < c .objects → Grants c assigned held read s o q → Grants c assigned held write s p r → Flow (ChannelOf c assigned held) (objectEntity c o) (objectEntity c p)
+  carries s o p q r hs ho hp g w =
+      step (step here (reads o ho refl hs (record { by = q; grants = g }))) (writes p hp hs refl (record { by = r; grants = w }))
+
+-- more assignments and more that is held: more channels
+module _ {c : Counts} {assigned assigned′ : ℕ → ℕ → Type 0} {held held′ : ℕ → ℕ → ℕ → Type 0} (more : (s r : ℕ) → s < c .subjects → r < c .roles → assigned s r → assigned′ s r) (reads-more : (r o : ℕ) → r < c .roles → o < c .objects → held r o read → held′ r o read) (writes-more : (r o : ℕ) → r < c .roles → o < c .objects → held r o write → held′ r o write) where
+  may-more : {wanted s o : ℕ} → ((r : ℕ) → r < c .roles → held r o wanted → held′ r o wanted) → s < c .subjects → May c assigned held wanted s o → May c assigned′ held′ wanted s o
+  may-more holds-more hs m =
+      let g = m .grants in
+      record {
+        by = m .by;
+        grants = record { role = g .role; has-role = more _ _ hs (g .role) (g .has-role); holds = holds-more _ (g .role) (g .holds) };
+      }
+
+  pub channel-more : Has (ChannelOf c assigned′ held′) (ChannelOf c assigned held)
+  channel-more x y (reads o l e h m) = reads o l e h (may-more (λ r k. reads-more r o k l) h m)
+  channel-more x y (writes o l h e m) = writes o l h e (may-more (λ r k. writes-more r o k l) h m)

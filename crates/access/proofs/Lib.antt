@@ -1,0 +1,3 @@
+-- Laws of channels, and a small sheet at which their premises are met.
+pub mod Channels
+pub mod Example

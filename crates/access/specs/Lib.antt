@@ -1,0 +1,2 @@
+-- What a sheet permits, and its channels.
+pub mod Channel

@@ -1,0 +1,1 @@
+// What a subject may do with an object, and the channels of a sheet.

@@ -1,0 +1,78 @@
+-- "A change sets one assignment byte or one permission byte of the lent tables and no other."
+use Prim.Native.Nat.{ℕ, _+_, _*_}
+use mathlib.Core.Path.{_≡_}
+use mathlib.Core.Bool.{false}
+use mathlib.Core.List.{List, [], _∷_}
+use lib.Dec.{leb, ltb}
+use lib.ListN.{set}
+use Rattle.answers.specs.declared.Counts.{Counts}
+use Rattle.answers.specs.Call.{Refusal, _if_, _then_, Outcome, left}
+use Rattle.answers.specs.Sheet.{Lent, Sheet}
+use Rattle.answers.specs.Refusals.{sheetRefusals}
+use Rattle.access.specs.Channel.{read, write, Has}
+
+-- the place of an assignment byte, "at s x R + r", and of a permission byte, "at r x O + o"
+abbrev pub assignmentPlace : Counts → ℕ → ℕ → ℕ
+assignmentPlace c s r = s * c .roles + r
+
+abbrev pub permissionPlace : Counts → ℕ → ℕ → ℕ
+permissionPlace c r o = r * c .objects + o
+
+-- ---- a changed sheet
+unfoldable pub withAssignment : Sheet → ℕ → ℕ → ℕ → Sheet
+withAssignment t s r value =
+    record {
+      counts = t .counts;
+      assignment = set (t .assignment) (assignmentPlace (t .counts) s r) value;
+      permission = t .permission;
+      separations = t .separations;
+    }
+
+unfoldable pub withPermission : Sheet → ℕ → ℕ → ℕ → Sheet
+withPermission t r o mode =
+    record {
+      counts = t .counts;
+      assignment = t .assignment;
+      permission = set (t .permission) (permissionPlace (t .counts) r o) mode;
+      separations = t .separations;
+    }
+
+-- "a change that only adds permission or assignment": the new byte has the assignment of the old
+abbrev pub AssignmentAdds : (old new : ℕ) → Type 0
+AssignmentAdds old new = old ≡ 1 → new ≡ 1
+
+-- the new byte has every mode of the old
+pub record PermissionAdds (old new : ℕ) : Type 0 where
+  pub reading : Has old read → Has new read
+  pub writing : Has old write → Has new write
+
+-- "one that only takes away"
+abbrev pub AssignmentTakes : (old new : ℕ) → Type 0
+AssignmentTakes old new = AssignmentAdds new old
+
+abbrev pub PermissionTakes : (old new : ℕ) → Type 0
+PermissionTakes old new = PermissionAdds new old
+
+-- ---- the calls
+-- "A single change puts 6 last": "a subject, role, object .. is not below its count, or a mode or value is out of range"
+unfoldable pub setAssignmentRefusals : Lent → ℕ → ℕ → ℕ → List Refusal
+setAssignmentRefusals l s r value =
+    sheetRefusals false false l
+    then ((6 if leb (l .counts .subjects) s) ∷ (6 if leb (l .counts .roles) r) ∷ (6 if ltb 1 value) ∷ [])
+
+unfoldable pub setPermissionRefusals : Lent → ℕ → ℕ → ℕ → List Refusal
+setPermissionRefusals l r o mode =
+    sheetRefusals false false l
+    then ((6 if leb (l .counts .roles) r) ∷ (6 if leb (l .counts .objects) o) ∷ (6 if ltb 3 mode) ∷ [])
+
+-- the contract of `set_assignment`: the answer, and the assignment table afterwards
+abbrev pub SetsAssignment : Lent → ℕ → ℕ → ℕ → ℕ × List ℕ → Type 0
+SetsAssignment l s r value =
+    Outcome (setAssignmentRefusals l s r value) (left (l .assignment))
+    (λ result. result ≡ (0, set (l .assignment) (assignmentPlace (l .counts) s r) value))
+
+-- the contract of `set_permission`: the answer, and the permission table afterwards
+abbrev pub SetsPermission : Lent → ℕ → ℕ → ℕ → ℕ × List ℕ → Type 0
+SetsPermission l r o mode =
+    Outcome (setPermissionRefusals l r o mode) (left (l .permission))
+    (λ result. result ≡ (0, set (l .permission) (permissionPlace (l .counts) r o) mode))

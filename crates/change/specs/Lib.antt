@@ -1,0 +1,2 @@
+-- One change at a time.
+pub mod Change

@@ -1,0 +1,1 @@
+// One change at a time: one assignment byte or one permission byte.

@@ -1,0 +1,3 @@
+-- Digits, bytes as digits, and the lines of a text. Read in this order.
+pub mod Digit
+pub mod Line

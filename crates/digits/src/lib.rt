@@ -1,0 +1,1 @@
+// Digits of lowercase hexadecimal, and a text as lines.

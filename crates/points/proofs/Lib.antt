@@ -1,0 +1,2 @@
+-- Flow and the shown chain, computed.
+pub mod Computed

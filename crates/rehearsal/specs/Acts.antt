@@ -1,0 +1,33 @@
+-- What acts do to marks, one after the other, whatever the transfers look like that they come from.
+use Prim.Native.Nat.{ℕ, _+_, _%_, _^_}
+use mathlib.Core.List.{List, [], _∷_, map}
+use lib.ListN.{getD, set}
+use Rattle.rehearsal.specs.declared.Act.{Act}
+use Rattle.rehearsal.specs.declared.Act.the-variants.{Moves, OutOfRange, NotPermitted}
+
+-- "the verdict byte is 0 .. the byte is 10; if there is no channel, 16"
+unfoldable pub verdict : Act → ℕ
+verdict (Moves a b) = 0
+verdict OutOfRange = 10
+verdict NotPermitted = 16
+
+unfoldable pub verdictBytes : List Act → List ℕ
+unfolding verdict
+verdictBytes acts = map verdict acts
+
+-- "its old mark plus the source's mark modulo 4,294,967,296"
+unfoldable pub plus : ℕ → ℕ → ℕ
+plus old source = (old + source) % 2 ^ 32
+
+-- "the destination's mark becomes .."; "in both cases no mark changes"
+unfoldable pub acted : Act → List ℕ → List ℕ
+unfolding plus
+acted (Moves a b) marks = set marks b (plus (getD marks b 0) (getD marks a 0))
+acted OutOfRange marks = marks
+acted NotPermitted marks = marks
+
+-- "one after the other" (misreadings: not all "to the starting marks")
+unfoldable pub after : List Act → List ℕ → List ℕ
+unfolding acted
+after [] marks = marks
+after (t ∷ ts) marks = after ts (acted t marks)

@@ -1,0 +1,38 @@
+-- Transfers, over any relation of channels: what each comes to.
+use Prim.Native.Nat.{ℕ, _-_, _<_}
+use mathlib.Core.Path.{_≡_}
+use mathlib.Core.Bool.{cond}
+use mathlib.Core.List.{List, [], _∷_}
+use lib.Dec.{ltb}
+use Rattle.answers.specs.declared.Counts.{Counts}
+use Rattle.answers.specs.Sheet.{objectEntity}
+use Rattle.rehearsal.specs.declared.Act.{Act}
+use Rattle.rehearsal.specs.declared.Act.the-variants.{Moves, OutOfRange, NotPermitted}
+use Rattle.rehearsal.specs.declared.Transfer.{Transfer}
+
+abbrev pub transfer : ℕ → ℕ → ℕ → Transfer
+transfer s o m = record { subject = s; object = o; mode = m }
+
+-- "Transfers come as flat bytes, three each"
+unfoldable pub flatTransfers : List ℕ → List Transfer
+flatTransfers [] = []
+flatTransfers (s ∷ []) = []
+flatTransfers (s ∷ o ∷ []) = []
+flatTransfers (s ∷ o ∷ m ∷ bytes) = transfer s o m ∷ flatTransfers bytes
+
+-- "A transfer is subject, object, mode: 1 moves from object to subject, 2 the other way": the way of a transfer, from a to b
+pub data Way (c : Counts) (t : Transfer) : ℕ → ℕ → Type 0 where
+  toSubject : t .subject < c .subjects → t .object < c .objects → t .mode ≡ 1 → Way c t (objectEntity c (t .object)) (t .subject)
+  toObject : t .subject < c .subjects → t .object < c .objects → t .mode ≡ 2 → Way c t (t .subject) (objectEntity c (t .object))
+
+-- "If the channel exists ..; If a number is out of range or the mode is not 1 or 2 ..; if there is no channel ..": what a transfer
+-- comes to
+pub data Comes (c : Counts) (ch : ℕ → ℕ → Type 0) (t : Transfer) : Act → Type 0 where
+  moves : {a b : ℕ} → Way c t a b → ch a b → Comes c ch t (Moves a b)
+  outside : ((a b : ℕ) → Way c t a b → ⊥) → Comes c ch t OutOfRange
+  barred : {a b : ℕ} → Way c t a b → (ch a b → ⊥) → Comes c ch t NotPermitted
+
+-- each transfer of a list comes to the act at its place
+pub data AllCome (c : Counts) (ch : ℕ → ℕ → Type 0) : List Transfer → List Act → Type 0 where
+  none : AllCome c ch [] []
+  next : {t : Transfer} {act : Act} {ts : List Transfer} {acts : List Act} → Comes c ch t act → AllCome c ch ts acts → AllCome c ch (t ∷ ts) (act ∷ acts)

@@ -1,0 +1,2 @@
+-- What C is handed.
+pub mod Packed

@@ -1,0 +1,50 @@
+-- `judge`: the first broken separation, over any relation of channels.
+use Prim.Native.Nat.{ℕ, _<_}
+use mathlib.Core.Path.{_≡_}
+use mathlib.Core.Bool.{false, _||_}
+use mathlib.Core.List.{List}
+use lib.ListN.{length}
+use Rattle.answers.specs.Sizes.{leastChain, leastSeparations}
+use Rattle.answers.specs.Call.{Refusal, _then_, Outcome}
+use Rattle.answers.specs.Rows.{over, shorter}
+use Rattle.answers.specs.Sheet.{Lent, sheetOf, entities, from, to}
+use Rattle.answers.specs.Refusals.{sheetRefusals, separationRefusals}
+use Rattle.theory.specs.Flow.{Flow}
+use Rattle.theory.specs.Chain.{Best}
+use Rattle.access.specs.Channel.{Channel}
+use Rattle.verdict.specs.declared.Judged.{Judged}
+
+-- "data of entity x must not reach entity y"; "one is broken exactly if such a chain exists", separation i
+abbrev pub Broken : (ℕ → ℕ → Type 0) → List ℕ → ℕ → Type 0
+Broken ch separations i = Flow ch (from separations i) (to separations i)
+
+-- "Separations are judged in list order. The first broken one"
+pub record FirstBroken (ch : ℕ → ℕ → Type 0) (count : ℕ) (separations : List ℕ) (i : ℕ) : Type 0 where
+  pub below : i < count
+  pub broken : Broken ch separations i
+  pub before : (j : ℕ) → j < i → Broken ch separations j → ⊥
+
+abbrev pub AllHold : (ℕ → ℕ → Type 0) → ℕ → List ℕ → Type 0
+AllHold ch count separations = (j : ℕ) → j < count → Broken ch separations j → ⊥
+
+abbrev pub judged : ℕ → ℕ → ℕ → Judged
+judged n position count = record { answer = n; position = position; count = count }
+
+-- "The first broken one is answered by 14, its position from 0 and its chain"; where all hold, "position and chain count" are 0 and
+-- "the chain buffer is then unaltered"
+pub data Verdict (ch : ℕ → ℕ → Type 0) (count : ℕ) (separations before : List ℕ) (result : Judged × List ℕ) : Type 0 where
+  hold : AllHold ch count separations → result ≡ (judged 0 0 0, before) → Verdict ch count separations before result
+  broken : (i : ℕ) (l : List ℕ) → FirstBroken ch count separations i → Best ch (from separations i) (to separations i) l →
+      result ≡ (judged 14 i (length l), over l before) → Verdict ch count separations before result
+
+-- "1, 5, 11; then, if it takes separations, 8, and then the first faulty pair, 6 before 7"
+unfoldable pub judgeRefusals : Lent → ℕ → List ℕ → List ℕ → List Refusal
+judgeRefusals l count separations chain =
+    sheetRefusals (shorter separations leastSeparations || shorter chain leastChain) false l
+    then separationRefusals (entities (l .counts)) count separations
+
+-- the contract of `judge`: the answer, and the chain buffer afterwards
+abbrev pub Judges : Lent → ℕ → List ℕ → List ℕ → Judged × List ℕ → Type 0
+Judges l count separations before =
+    Outcome (judgeRefusals l count separations before) (λ n. (judged n 0 0, before))
+    (Verdict (Channel (sheetOf l count separations)) count separations before)

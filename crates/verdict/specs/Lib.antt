@@ -1,0 +1,3 @@
+-- The shown chain, and the first broken separation. Read in this order.
+pub mod Shown
+pub mod Judge
