@@ -5,3 +5,4 @@ pub mod Distinct
 pub mod Chains
 pub mod Exists
 pub mod Effects
+pub mod Network

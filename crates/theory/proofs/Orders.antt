@@ -28,7 +28,7 @@ use Rattle.theory.specs.Order.{
   GreatestIntegrity,
   Greatest,
 }
-use Rattle.theory.proofs.Flows.{Reflexive, Transitive, flow-reflexive, flow-transitive}
+use Rattle.theory.proofs.Flows.{Reflexive, Transitive, flow-reflexive, flow-transitive, flow-closed, flow-closed-back}
 
 -- ---- any reflexive and transitive relation
 module _ {R : ℕ → ℕ → Type 0} (same : Reflexive R) (through : Transitive R) where
@@ -65,6 +65,9 @@ module _ {R : ℕ → ℕ → Type 0} (same : Reflexive R) (through : Transitive
   -- the order of classes is partial: classes below each other are one class
   pub class-antisymmetric : {n x y : ℕ} → x < n → y < n → ClassBelow n R x y → ClassBelow n R y x → Equivalent R x y
   class-antisymmetric hx hy c d = record { there = flow-of-class hx hy c; back = flow-of-class hy hx d }
+
+  pub class-reflexive : {n x : ℕ} → x < n → ClassBelow n R x x
+  class-reflexive hx = class-of-flow hx hx (same _)
 
   pub class-transitive : {n x y z : ℕ} → x < n → y < n → z < n → ClassBelow n R x y → ClassBelow n R y z → ClassBelow n R x z
   class-transitive hx hy hz c d = class-of-flow hx hz (through _ _ _ (flow-of-class hx hy c) (flow-of-class hy hz d))
@@ -132,9 +135,16 @@ some-order (yes p) (no q) = (below, only-there p q)
 some-order (no p) (yes q) = (above, only-back p q)
 some-order (no p) (no q) = (incomparable, neither p q)
 
--- an isolated entity has both
-pub isolated : {n : ℕ} {R : ℕ → ℕ → Type 0} {x : ℕ} → ((y : ℕ) → y < n → R x y → y ≡ x) → ((y : ℕ) → y < n → R y x → y ≡ x) → Greatest n R x 3
-isolated out into = record { secrecy = 1; integrity = 1; secret = one refl out; integral = one refl into; summed = refl }
+-- an isolated entity, with no channel out of it and none into it, has both
+pub isolated : {n : ℕ} {ch : ℕ → ℕ → Type 0} {x : ℕ} → ((y : ℕ) → ch x y → ⊥) → ((y : ℕ) → ch y x → ⊥) → Greatest n (Flow ch) x 3
+isolated {n} {ch} {x} out into =
+    record {
+      secrecy = 1;
+      integrity = 1;
+      secret = one refl (λ y _ f. flow-closed (λ z. z ≡ x) refl (λ a b e c. absurd (out b (rw e at c))) f);
+      integral = one refl (λ y _ f. flow-closed-back (λ z. z ≡ x) refl (λ a b e c. absurd (into a (rw e at c))) f);
+      summed = refl;
+    }
 
 -- ---- relations that agree on the entities below n give equal answers
 pub record Agree (n : ℕ) (R R′ : ℕ → ℕ → Type 0) : Type 0 where
