@@ -38,10 +38,6 @@ module _ {c : Counts} {assigned : ℕ → ℕ → Type 0} {held : ℕ → ℕ �
       let f : o ≡ x - c .subjects = omega arith in
       subst (λ (p : ℕ). May c assigned held read y p) f m
 
-  -- a role that no subject has makes no channel
-  pub nobody's-role : (r : ℕ) → ((s : ℕ) → s < c .subjects → assigned s r → ⊥) → (wanted s o : ℕ) → s < c .subjects → Grants c assigned held wanted s o r → ⊥
-  nobody's-role r nobody wanted s o h g = nobody s h (g .has-role)
-
   -- a subject that has a role reading o and another role writing p carries o to p
   pub carries : (s o p q r : ℕ) → s < c .subjects → o < c .objects → p < c .objects → Grants c assigned held read s o q → Grants c assigned held write s p r → Flow (ChannelOf c assigned held) (objectEntity c o) (objectEntity c p)
   carries s o p q r hs ho hp g w =
@@ -60,3 +56,18 @@ module _ {c : Counts} {assigned assigned′ : ℕ → ℕ → Type 0} {held held
   pub channel-more : Has (ChannelOf c assigned′ held′) (ChannelOf c assigned held)
   channel-more x y (reads o l e h m) = reads o l e h (may-more (λ r k. reads-more r o k l) h m)
   channel-more x y (writes o l h e m) = writes o l h e (may-more (λ r k. writes-more r o k l) h m)
+
+-- a role that no subject has makes no channel: whatever it holds, the channels are the same
+module _ {c : Counts} {assigned : ℕ → ℕ → Type 0} {held held′ : ℕ → ℕ → ℕ → Type 0} (r : ℕ) (nobody : (s : ℕ) → s < c .subjects → assigned s r → ⊥) (others : (q o m : ℕ) → (q ≡ r → ⊥) → held q o m → held′ q o m) where
+  may-without : {wanted s o : ℕ} → s < c .subjects → May c assigned held wanted s o → May c assigned held′ wanted s o
+  may-without {wanted} {s} {o} hs m =
+      let g = m .grants in
+      let other : m .by ≡ r → ⊥ = λ e. nobody s hs (rw e at (g .has-role)) in
+      record {
+        by = m .by;
+        grants = record { role = g .role; has-role = g .has-role; holds = others (m .by) o wanted other (g .holds) };
+      }
+
+  pub channel-without : Has (ChannelOf c assigned held′) (ChannelOf c assigned held)
+  channel-without x y (reads o l e h m) = reads o l e h (may-without h m)
+  channel-without x y (writes o l h e m) = writes o l h e (may-without h m)

@@ -1,3 +1,4 @@
 -- Laws of channels, and a small sheet at which their premises are met.
 pub mod Channels
+pub mod Decided
 pub mod Example

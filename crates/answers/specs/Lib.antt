@@ -5,3 +5,4 @@ pub mod Rows
 pub mod Sheet
 pub mod Refusals
 pub mod Part
+pub mod Inner

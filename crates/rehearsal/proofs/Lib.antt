@@ -1,0 +1,8 @@
+-- Laws of rehearsals, over any relation of channels, and demand 3. Read in this order.
+pub mod Determined
+pub mod Moving
+pub mod Sums
+pub mod Shares
+pub mod Labels
+pub mod Chains
+pub mod TwoRuns

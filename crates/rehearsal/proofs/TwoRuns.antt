@@ -1,0 +1,47 @@
+-- Demand 3, over any relation of channels. Both halves follow from x's share in y's final mark: 0 outside y's label, 1 along the shown
+-- chain.
+use Prim.Native.Nat.{ℕ, _+_, _%_, _^_, _≤_, _<_}
+use native.Mathlib.Omega.{arith}
+use mathlib.Core.Path.{_≡_}
+use mathlib.Core.List.{List}
+use lib.ListN.{length, getD}
+use Rattle.theory.specs.Flow.{Flow}
+use Rattle.theory.specs.Chain.{Best}
+use Rattle.theory.proofs.Flows.{Inside}
+use Rattle.theory.proofs.Chains.{shortest-distinct}
+use Rattle.rehearsal.specs.declared.Act.{Act}
+use Rattle.rehearsal.specs.Acts.{after}
+use Rattle.rehearsal.specs.Demand3.{DifferAt}
+use Rattle.rehearsal.proofs.Moving.{AllMove, Marks32}
+use Rattle.rehearsal.proofs.Shares.{share, weighed, final-mark, two-runs}
+use Rattle.rehearsal.proofs.Labels.{share-outside, chainMoves, share-along}
+
+-- two sets of 32-bit starting marks of n entities that differ at entity x only
+pub record Starts (n x : ℕ) (marks marks′ : List ℕ) : Type 0 where
+  pub entity : x < n
+  pub bits : Marks32 marks
+  pub bits′ : Marks32 marks′
+  pub apart : DifferAt n x marks marks′
+
+module _ {n : ℕ} {ch : ℕ → ℕ → Type 0} (inside : Inside n ch) {x y : ℕ} (below : y < n) {marks marks′ : List ℕ} (s : Starts n x marks marks′) (room : n ≤ length marks) where
+  module _ {acts : List Act} (along : AllMove ch acts) where
+    final : getD (after acts marks) y 0 ≡ weighed n acts marks y % 2 ^ 32
+    final = final-mark inside below marks along room (s .bits)
+
+    final′ : getD (after acts marks′) y 0 ≡ weighed n acts marks′ y % 2 ^ 32
+    final′ = final-mark inside below marks′ along (rw (← s .apart .same-length) room) (s .bits′)
+
+    without-share : share acts x y ≡ 0 → getD (after acts marks) y 0 ≡ getD (after acts marks′) y 0
+    without-share e = omega (arith, final, final′, rw e at (two-runs n x acts marks marks′ y (s .apart) (s .entity)))
+
+    with-share : share acts x y ≡ 1 → getD (after acts marks) y 0 ≡ getD (after acts marks′) y 0 → ⊥
+    with-share e same =
+        s .apart .differ (omega (arith, final, final′, rw e at (two-runs n x acts marks marks′ y (s .apart) (s .entity)), s .bits x, s .bits′ x))
+
+    -- "an entity whose label lacks x ends with equal marks"
+    pub label-lacks : (Flow ch x y → ⊥) → getD (after acts marks) y 0 ≡ getD (after acts marks′) y 0
+    label-lacks lacks = without-share (share-outside along x y lacks)
+
+  -- "If y's label holds x .. the shown chain's transfers .. with different marks at y"
+  pub label-holds : {l : List ℕ} → Best ch x y l → AllMove ch (chainMoves l) → getD (after (chainMoves l) marks) y 0 ≡ getD (after (chainMoves l) marks′) y 0 → ⊥
+  label-holds b along = with-share along (share-along (b .chain) (shortest-distinct (b .chain) (b .shortest)))
