@@ -7,4 +7,5 @@ pub mod Scans
 pub mod Accepted
 pub mod Sounds
 pub mod Keys
+pub mod Parts
 pub mod Examples

@@ -45,6 +45,11 @@ module _ {ch : ℕ → ℕ → Type 0} {y : ℕ} where
   chain-moves x alone = refl
   chain-moves x (link c t) = refl
 
+  pub chain-along : {x : ℕ} {l : List ℕ} → Chain ch x y l → AllMove ch (chainMoves l)
+  unfolding chainMoves
+  chain-along alone = still
+  chain-along {x} (link c t) = rw (chain-moves x t) (move c (chain-along t))
+
   -- an entity that is not on the chain has no share
   share-off : {x w : ℕ} {l : List ℕ} → Chain ch x y l → Absent w l → share (chainMoves l) w y ≡ 0
   unfolding chainMoves share

@@ -6,3 +6,8 @@ pub mod Shares
 pub mod Labels
 pub mod Chains
 pub mod TwoRuns
+pub mod Flat
+pub mod Accepted
+pub mod Entries
+pub mod SameAnswers
+pub mod ShownChain

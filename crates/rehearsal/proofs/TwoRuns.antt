@@ -5,16 +5,19 @@ use native.Mathlib.Omega.{arith}
 use mathlib.Core.Path.{_≡_}
 use mathlib.Core.List.{List}
 use lib.ListN.{length, getD}
+use Rattle.answers.specs.declared.Counts.{Counts}
 use Rattle.theory.specs.Flow.{Flow}
 use Rattle.theory.specs.Chain.{Best}
 use Rattle.theory.proofs.Flows.{Inside}
 use Rattle.theory.proofs.Chains.{shortest-distinct}
 use Rattle.rehearsal.specs.declared.Act.{Act}
+use Rattle.rehearsal.specs.declared.Transfer.{Transfer}
 use Rattle.rehearsal.specs.Acts.{after}
+use Rattle.rehearsal.specs.Transfers.{AllCome}
 use Rattle.rehearsal.specs.Demand3.{DifferAt}
-use Rattle.rehearsal.proofs.Moving.{AllMove, Marks32}
+use Rattle.rehearsal.proofs.Moving.{AllMove, come-move, Marks32}
 use Rattle.rehearsal.proofs.Shares.{share, weighed, final-mark, two-runs}
-use Rattle.rehearsal.proofs.Labels.{share-outside, chainMoves, share-along}
+use Rattle.rehearsal.proofs.Labels.{share-outside, chainMoves, chain-along, share-along}
 
 -- two sets of 32-bit starting marks of n entities that differ at entity x only
 pub record Starts (n x : ℕ) (marks marks′ : List ℕ) : Type 0 where
@@ -38,10 +41,10 @@ module _ {n : ℕ} {ch : ℕ → ℕ → Type 0} (inside : Inside n ch) {x y : �
     with-share e same =
         s .apart .differ (omega (arith, final, final′, rw e at (two-runs n x acts marks marks′ y (s .apart) (s .entity)), s .bits x, s .bits′ x))
 
-    -- "an entity whose label lacks x ends with equal marks"
-    pub label-lacks : (Flow ch x y → ⊥) → getD (after acts marks) y 0 ≡ getD (after acts marks′) y 0
-    label-lacks lacks = without-share (share-outside along x y lacks)
+  -- "an entity whose label lacks x ends with equal marks"
+  pub label-lacks : {c : Counts} {ts : List Transfer} {acts : List Act} → AllCome c ch ts acts → (Flow ch x y → ⊥) → getD (after acts marks) y 0 ≡ getD (after acts marks′) y 0
+  label-lacks come lacks = without-share (come-move come) (share-outside (come-move come) x y lacks)
 
-  -- "If y's label holds x .. the shown chain's transfers .. with different marks at y"
-  pub label-holds : {l : List ℕ} → Best ch x y l → AllMove ch (chainMoves l) → getD (after (chainMoves l) marks) y 0 ≡ getD (after (chainMoves l) marks′) y 0 → ⊥
-  label-holds b along = with-share along (share-along (b .chain) (shortest-distinct (b .chain) (b .shortest)))
+  -- "If y's label holds x", the moves along the shown chain end "with different marks at y"
+  pub label-holds : {l : List ℕ} → Best ch x y l → getD (after (chainMoves l) marks) y 0 ≡ getD (after (chainMoves l) marks′) y 0 → ⊥
+  label-holds b = with-share (chain-along (b .chain)) (share-along (b .chain) (shortest-distinct (b .chain) (b .shortest)))

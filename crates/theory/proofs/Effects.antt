@@ -5,8 +5,9 @@ use mathlib.Core.Logic.{_⊎_, inl, inr}
 use native.Mathlib.Omega.{arith}
 use Rattle.answers.specs.Rows.{Mark, one, none}
 use Rattle.answers.proofs.Marks.{one-mark, mark-agrees}
+use Rattle.theory.specs.Flow.{Flow}
 use Rattle.theory.specs.Effect.{Gained, Lost, Effect}
-use Rattle.theory.proofs.Orders.{Agree}
+use Rattle.theory.proofs.Flows.{Has, flow-more}
 
 pub one-effect : {n : ℕ} {R R′ : ℕ → ℕ → Type 0} {x a b : ℕ} → Effect n R R′ x a → Effect n R R′ x b → a ≡ b
 one-effect p q = p .summed ∙ rw (one-mark (p .gained) (q .gained), one-mark (p .lost) (q .lost)) (sym (q .summed))
@@ -35,3 +36,11 @@ module _ {n : ℕ} {R R′ : ℕ → ℕ → Type 0} {x : ℕ} (hx : x < n) wher
       go (one f p) m s = absurd (nothing-gained fewer p)
       go (none f p) (one g q) s = inr (omega arith)
       go (none f p) (none g q) s = inl (omega arith)
+
+-- for any channels: more of them lose nothing, and fewer gain nothing
+module _ {n x e : ℕ} {ch ch′ : ℕ → ℕ → Type 0} (hx : x < n) (change : Effect n (Flow ch) (Flow ch′) x e) where
+  pub adding-loses-nothing : Has ch′ ch → (e ≡ 0) ⊎ (e ≡ 1)
+  adding-loses-nothing more = more-gains hx (λ a b _ _. flow-more more a b) change
+
+  pub taking-gains-nothing : Has ch ch′ → (e ≡ 0) ⊎ (e ≡ 2)
+  taking-gains-nothing fewer = fewer-loses hx (λ a b _ _. flow-more fewer a b) change

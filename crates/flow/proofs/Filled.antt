@@ -1,0 +1,69 @@
+-- The table that filling wrote: its bytes are the sheet's flows, so the questions on it are those of the sheet's flow.
+use Prim.Native.Nat.{ℕ, suc, _+_, _*_, _≤_, _<_}
+use mathlib.Core.Path.{_≡_, refl, sym, ap, _∙_}
+use mathlib.Core.Logic.{_⊎_}
+use mathlib.Core.List.{List, _++_}
+use native.Mathlib.Nat.{mul-le-mul-right}
+use native.Mathlib.Omega.{arith}
+use lib.ListN.{length, getD, drop, List·getD-append}
+use Rattle.answers.specs.Rows.{at, Mark, Marked, over}
+use Rattle.answers.specs.Sheet.{Sheet, entities}
+use Rattle.answers.proofs.Marks.{mark-of, marked-yes}
+use Rattle.answers.proofs.Products.{place-below}
+use Rattle.theory.specs.Flow.{Flow, here}
+use Rattle.theory.specs.Order.{Included}
+use Rattle.theory.specs.Effect.{Effect}
+use Rattle.theory.proofs.Flows.{Has, flow-reflexive, flow-transitive, flow-more}
+use Rattle.theory.proofs.Orders.{Agree, EqualAnswers, equal-answers, label-of-flow, flow-of-label}
+use Rattle.theory.proofs.Effects.{more-gains, fewer-loses}
+use Rattle.access.specs.Channel.{Channel}
+use Rattle.flow.specs.Table.{Bytes}
+use Rattle.flow.specs.Fill.{SheetFlow, Filled}
+
+-- the bytes of a table are those of the buffer that it stands in front of
+byte-in-front : (n : ℕ) (table buffer : List ℕ) (x y : ℕ) → length table ≡ n * n → x < n → y < n → at (over table buffer) n x y ≡ at table n x y
+unfolding over
+byte-in-front n table buffer x y e hx hy =
+    List·getD-append table (drop (length table) buffer) 0 (x * n + y) (place-below x y n n (length table) hx hy (omega arith))
+
+-- a table that marks a relation gives that relation by its bytes
+module _ {n : ℕ} {R : ℕ → ℕ → Type 0} {table : List ℕ} (m : Marked n R table) (buffer : List ℕ) where
+  pub marked-agrees : Agree n R (Bytes n (over table buffer))
+  marked-agrees =
+      record {
+        there = λ x y hx hy r.
+            record { source = hx; target = hy; flows = byte-in-front n table buffer x y (m .size) hx hy ∙ mark-of (m .bytes x y hx hy) r };
+        back = λ x y hx hy b. marked-yes (m .bytes x y hx hy) (sym (byte-in-front n table buffer x y (m .size) hx hy) ∙ b .flows);
+      }
+
+-- what filling left in the flow buffer
+abbrev pub LeftBy : Sheet → List ℕ → List ℕ → Type 0
+LeftBy t before after = Filled t before (0, after)
+
+pub filled-agrees : (t : Sheet) (before after : List ℕ) → LeftBy t before after → Agree (entities (t .counts)) (SheetFlow t) (Bytes (entities (t .counts)) after)
+filled-agrees t before after f = rw (ap (λ (r : ℕ × List ℕ). r .1) (f .written)) (marked-agrees (f .marked) before)
+
+-- label, class, compare and greatest are those of the sheet's flow
+pub filled-answers : (t : Sheet) (before after : List ℕ) → LeftBy t before after → (x y : ℕ) → x < entities (t .counts) → y < entities (t .counts) →
+    EqualAnswers (entities (t .counts)) (SheetFlow t) (Bytes (entities (t .counts)) after) x y
+filled-answers t before after f x y hx hy = equal-answers (filled-agrees t before after f) hx hy
+
+-- "In a filled table, flow from x to y holds exactly if x's label is included in y's"
+module _ (t : Sheet) (before after : List ℕ) (f : LeftBy t before after) (x y : ℕ) (hx : x < entities (t .counts)) (hy : y < entities (t .counts)) where
+  agree : Agree (entities (t .counts)) (SheetFlow t) (Bytes (entities (t .counts)) after)
+  agree = filled-agrees t before after f
+
+  pub label-of-byte : Bytes (entities (t .counts)) after x y → Included (entities (t .counts)) (Bytes (entities (t .counts)) after) x y
+  label-of-byte b z hz i =
+      agree .there z y hz hy (label-of-flow flow-reflexive flow-transitive hx hy (agree .back x y hx hy b) z hz (agree .back z x hz hx i))
+
+  pub byte-of-label : Included (entities (t .counts)) (Bytes (entities (t .counts)) after) x y → Bytes (entities (t .counts)) after x y
+  byte-of-label i = i x hx (agree .there x x hx hx here)
+
+-- ---- "Between filled tables, a change that only adds .. never gives 2 or 3; one that only takes away never gives 1 or 3"
+module _ {n : ℕ} {ch ch′ : ℕ → ℕ → Type 0} {before after : List ℕ} (a : Agree n (Flow ch) (Bytes n before)) (b : Agree n (Flow ch′) (Bytes n after)) {x e : ℕ} (hx : x < n) where
+  pub tables-gain : Has ch′ ch → Effect n (Bytes n before) (Bytes n after) x e → (e ≡ 0) ⊎ (e ≡ 1)
+  tables-gain more = more-gains hx (λ u v hu hv p. b .there u v hu hv (flow-more more u v (a .back u v hu hv p)))
+
+  pub tables-lose : Has ch ch′ → Effect n (Bytes n before) (Bytes n after) x e → (e ≡ 0) ⊎ (e ≡ 2)
+  tables-lose fewer = fewer-loses hx (λ u v hu hv p. a .there u v hu hv (flow-more fewer u v (b .back u v hu hv p)))

@@ -1,0 +1,146 @@
+-- One step of the check: what a line that passes has passed, how the check goes on, and that a text that passes is one of frames.
+use Prim.Native.Nat.{ℕ, zero, suc, _+_, _<_}
+use mathlib.Core.Path.{_≡_, ap, refl, sym, _∙_}
+use mathlib.Core.Bool.{Bool, true, false, true≢false}
+use mathlib.Core.List.{List, [], _∷_, map}
+use native.Mathlib.Omega.{arith}
+use borrow.Author.Tests.{leb-false, lt-leb}
+use Rattle.answers.specs.Call.{firstRefusal}
+use Rattle.answers.proofs.Calls.{passed as none-held}
+use Rattle.frames.specs.declared.Frame.{Frame}
+use Rattle.frames.specs.declared.Parsed.{Parsed}
+use Rattle.frames.specs.declared.Parsed.the-variants.{NoBytes, NoFrame, Good}
+use Rattle.frames.specs.declared.Passed.{Passed}
+use Rattle.frames.specs.declared.Verdict.{Verdict}
+use Rattle.frames.specs.declared.Verdict.the-variants.{Refused, Accepted}
+use Rattle.frames.specs.Frame.{textOf, key}
+use Rattle.frames.specs.Check.{
+  start,
+  next,
+  misplaced,
+  oversized,
+  outOfRange,
+  tooMany,
+  miscounted,
+  frameRefusals,
+  parsedRefusals,
+  lineRefusals,
+  nextLine,
+  check,
+  parsedLines,
+  framesOf,
+}
+use Rattle.frames.proofs.Frames.{FrameBytes, text-read}
+
+-- a frame that passes after the lines k: none of its refusals holds
+pub record Fine (k : Passed) (f : Frame) : Type 0 where
+  pub not-ended : k .ended ≡ false
+  pub in-place : misplaced k f ≡ false
+  pub not-oversized : oversized f ≡ false
+  pub in-range : outOfRange k f ≡ false
+  pub ascends : k .last < key f
+  pub not-too-many : tooMany k f ≡ false
+  pub well-counted : miscounted k f ≡ false
+
+pub fine-of : (k : Passed) (f : Frame) → firstRefusal (lineRefusals k (Good f)) ≡ 0 → Fine k f
+unfolding lineRefusals parsedRefusals frameRefusals
+fine-of k f e =
+    let a = none-held 9 (k .ended) _ tt e in
+    let b = none-held 4 (misplaced k f) _ tt (a .1) in
+    let c = none-held 5 (oversized f) _ tt (b .1) in
+    let d = none-held 6 (outOfRange k f) _ tt (c .1) in
+    let g = none-held 7 _ _ tt (d .1) in
+    let h = none-held 8 (tooMany k f) _ tt (g .1) in
+    let i = none-held 9 (miscounted k f) _ tt (h .1) in
+    record {
+      not-ended = a .0;
+      in-place = b .0;
+      not-oversized = c .0;
+      in-range = d .0;
+      ascends = leb-false (key f) (k .last) (g .0);
+      not-too-many = h .0;
+      well-counted = i .0;
+    }
+
+pub of-fine : (k : Passed) (f : Frame) → Fine k f → firstRefusal (lineRefusals k (Good f)) ≡ 0
+unfolding lineRefusals parsedRefusals frameRefusals firstRefusal
+of-fine k f p =
+    simp (
+      p .not-ended,
+      p .in-place,
+      p .not-oversized,
+      p .in-range,
+      lt-leb (key f) (k .last) (p .ascends),
+      p .not-too-many,
+      p .well-counted,
+    )
+
+-- ---- how the check goes on
+pub check-go : (k : Passed) (p : Parsed) (ps : List Parsed) → firstRefusal (lineRefusals k p) ≡ 0 → check k (p ∷ ps) ≡ check (nextLine k p) ps
+unfolding check
+check-go k p ps e = rw (e, check)
+
+pub check-stop : (k : Passed) (p : Parsed) (ps : List Parsed) (n : ℕ) → firstRefusal (lineRefusals k p) ≡ suc n → check k (p ∷ ps) ≡ Refused (suc n) (k .lines + 1)
+unfolding check
+check-stop k p ps n e = rw (e, check)
+
+pub not-refused : {n line : ℕ} → Refused n line ≡ Accepted → ⊥
+not-refused e = let z : _≡_ {A = ℕ} 0 1 = cc in omega arith
+
+pub line-passed : (k : Passed) (p : Parsed) (ps : List Parsed) → check k (p ∷ ps) ≡ Accepted →
+    (firstRefusal (lineRefusals k p) ≡ 0) × (check (nextLine k p) ps ≡ Accepted)
+line-passed k p ps h = go (firstRefusal (lineRefusals k p)) refl
+  where
+    go : (n : ℕ) → firstRefusal (lineRefusals k p) ≡ n → (firstRefusal (lineRefusals k p) ≡ 0) × (check (nextLine k p) ps ≡ Accepted)
+    go zero e = (e, rw (check-go k p ps e) at h)
+    go (suc n) e = absurd (not-refused (rw (check-stop k p ps n e) at h))
+
+-- a frame that passes, and the lines after it; and back
+pub frame-passed : (k : Passed) (f : Frame) (ps : List Parsed) → check k (Good f ∷ ps) ≡ Accepted → Fine k f × (check (next k f) ps ≡ Accepted)
+unfolding nextLine
+frame-passed k f ps h = let x = line-passed k (Good f) ps h in (fine-of k f (x .0), x .1)
+
+pub frame-passes : (k : Passed) (f : Frame) (ps : List Parsed) → Fine k f → check (next k f) ps ≡ Accepted → check k (Good f ∷ ps) ≡ Accepted
+unfolding nextLine
+frame-passes k f ps p h = check-go k (Good f) ps (of-fine k f p) ∙ h
+
+-- "no end line", and "bytes after it"
+pub end-lacks : (k : Passed) → k .ended ≡ false → check k [] ≡ Accepted → ⊥
+unfolding check
+end-lacks k e h = not-refused (rw e at h)
+
+pub nothing-after : (k : Passed) (f : Frame) (ps : List Parsed) → k .ended ≡ true → check k (Good f ∷ ps) ≡ Accepted → ⊥
+nothing-after k f ps e h = true≢false (sym e ∙ frame-passed k f ps h .0 .not-ended)
+
+-- ---- a text that passes is one of frames
+no-bytes-refused : (k : Passed) → firstRefusal (lineRefusals k NoBytes) ≡ 0 → ⊥
+unfolding lineRefusals parsedRefusals
+no-bytes-refused k e = true≢false (none-held 2 true [] tt (none-held 9 (k .ended) _ tt e .1) .0)
+
+no-frame-refused : (k : Passed) → firstRefusal (lineRefusals k NoFrame) ≡ 0 → ⊥
+unfolding lineRefusals parsedRefusals
+no-frame-refused k e = true≢false (none-held 3 true [] tt (none-held 9 (k .ended) _ tt e .1) .0)
+
+pub all-frames : (k : Passed) (ps : List Parsed) → check k ps ≡ Accepted → ps ≡ map Good (framesOf ps)
+unfolding framesOf nextLine
+all-frames k [] h = refl
+all-frames k (NoBytes ∷ ps) h = absurd (no-bytes-refused k (line-passed k NoBytes ps h .0))
+all-frames k (NoFrame ∷ ps) h = absurd (no-frame-refused k (line-passed k NoFrame ps h .0))
+all-frames k (Good f ∷ ps) h = ap (λ (l : List Parsed). Good f ∷ l) (all-frames (next k f) ps (frame-passed k f ps h .1))
+
+pub frames-again : (fs : List Frame) → framesOf (map Good fs) ≡ fs
+unfolding framesOf
+frames-again [] = refl
+frames-again (f ∷ fs) = ap (λ (l : List Frame). f ∷ l) (frames-again fs)
+
+-- "one frame a line": an accepted text is the text of its frames
+pub record TextOf (text : List ℕ) (fs : List Frame) : Type 0 where
+  pub is-text : textOf fs ≡ text
+  pub of-bytes : FrameBytes fs
+  pub pass : check start (map Good fs) ≡ Accepted
+
+pub accepted-frames : (text : List ℕ) → check start (parsedLines text) ≡ Accepted → TextOf text (framesOf (parsedLines text))
+accepted-frames text h =
+    let g : parsedLines text ≡ map Good (framesOf (parsedLines text)) = all-frames start (parsedLines text) h in
+    let r = text-read text (framesOf (parsedLines text)) g in
+    record { is-text = r .0; of-bytes = r .1; pass = rw g at h }

@@ -1,0 +1,151 @@
+-- A text for every refusal, and two faults in one line: which number is answered, at which line.
+use mathlib.Core.Path.{_≡_, refl}
+use mathlib.Core.List.{_++_}
+use Rattle.digits.proofs.Text.{codes}
+use Rattle.frames.specs.declared.Verdict.the-variants.{Refused, Accepted}
+use Rattle.frames.proofs.Verdicts.{bytesVerdict, verdict, separated}
+
+record Passing : Type 0 where
+  least : verdict "01000000\n050001\n" ≡ Accepted
+  greatest-counts : verdict "01304030\n050001\n" ≡ Accepted
+  greatest-numbers : verdict "01030304\n020203\n03030203\n040505\n050004\n" ≡ Accepted
+
+passing : Passing
+unfolding verdict
+passing = record { least = refl; greatest-counts = refl; greatest-numbers = refl }
+
+-- "2 | a line has a byte outside 0-9 and a-f, an odd count of digits, no digits, or no line feed"
+record Number2 : Type 0 where
+  capital : verdict "0103030A\n" ≡ Refused 2 1
+  carriage-return : verdict "01030304\r\n" ≡ Refused 2 1
+  odd-count : verdict "0103030\n" ≡ Refused 2 1
+  no-digits : verdict "01030304\n\n050001\n" ≡ Refused 2 2
+  no-line-feed : verdict "01030304\n050001" ≡ Refused 2 2
+
+number-2 : Number2
+unfolding verdict
+number-2 = record { capital = refl; carriage-return = refl; odd-count = refl; no-digits = refl; no-line-feed = refl }
+
+-- "3 | first byte is not 01 to 05, or the frame's length is not its kind's"
+record Number3 : Type 0 where
+  kind-0 : verdict "00030304\n" ≡ Refused 3 1
+  kind-6 : verdict "01030304\n060000\n" ≡ Refused 3 2
+  one-byte : verdict "01\n" ≡ Refused 3 1
+  header-of-three : verdict "010303\n" ≡ Refused 3 1
+  header-of-five : verdict "0103030400\n" ≡ Refused 3 1
+  assignment-of-four : verdict "01030304\n02000000\n" ≡ Refused 3 2
+  permission-of-three : verdict "01030304\n030000\n" ≡ Refused 3 2
+
+number-3 : Number3
+unfolding verdict
+number-3 =
+    record {
+      kind-0 = refl;
+      kind-6 = refl;
+      one-byte = refl;
+      header-of-three = refl;
+      header-of-five = refl;
+      assignment-of-four = refl;
+      permission-of-three = refl;
+    }
+
+-- "4 | the first line is no header, or a later line is one", "5 for header counts"
+record Number4And5 : Type 0 where
+  no-header : verdict "050000\n" ≡ Refused 4 1
+  later-header : verdict "01030304\n01030305\n" ≡ Refused 4 2
+  subjects-49 : verdict "01310000\n050001\n" ≡ Refused 5 1
+  objects-65 : verdict "01004100\n050001\n" ≡ Refused 5 1
+  roles-49 : verdict "01000031\n050001\n" ≡ Refused 5 1
+
+number-4-and-5 : Number4And5
+unfolding verdict
+number-4-and-5 = record { no-header = refl; later-header = refl; subjects-49 = refl; objects-65 = refl; roles-49 = refl }
+
+-- "6 | a subject, role, object or entity is not below its count, or a mode or value is out of range"
+record Number6 : Type 0 where
+  subject : verdict "01030304\n020300\n" ≡ Refused 6 2
+  assigned-role : verdict "01030304\n020004\n" ≡ Refused 6 2
+  permitted-role : verdict "01030304\n03040001\n" ≡ Refused 6 2
+  object : verdict "01030304\n03000301\n" ≡ Refused 6 2
+  mode-0 : verdict "01030304\n03000000\n" ≡ Refused 6 2
+  mode-4 : verdict "01030304\n03000004\n" ≡ Refused 6 2
+  first-entity : verdict "01030304\n040600\n" ≡ Refused 6 2
+  second-entity : verdict "01030304\n040006\n" ≡ Refused 6 2
+
+number-6 : Number6
+unfolding verdict
+number-6 =
+    record {
+      subject = refl;
+      assigned-role = refl;
+      permitted-role = refl;
+      object = refl;
+      mode-0 = refl;
+      mode-4 = refl;
+      first-entity = refl;
+      second-entity = refl;
+    }
+
+-- "7 | lines .. do not ascend strictly": "by first byte, then by the two bytes after it (the mode takes no part)"
+record Number7 : Type 0 where
+  same-line : verdict "01030304\n020000\n020000\n" ≡ Refused 7 3
+  lower-kind : verdict "01030304\n03000001\n020101\n" ≡ Refused 7 3
+  lower-second : verdict "01030304\n020100\n020001\n" ≡ Refused 7 3
+  lower-third : verdict "01030304\n020001\n020000\n" ≡ Refused 7 3
+  other-mode : verdict "01030304\n03000001\n03000002\n" ≡ Refused 7 3
+
+number-7 : Number7
+unfolding verdict
+number-7 = record { same-line = refl; lower-kind = refl; lower-second = refl; lower-third = refl; other-mode = refl }
+
+-- "9 | no end line, a wrong count in it, or bytes after it"
+record Number9 : Type 0 where
+  empty-text : verdict "" ≡ Refused 9 1
+  no-end-line : verdict "01030304\n020000\n" ≡ Refused 9 3
+  wrong-count : verdict "01030304\n050002\n" ≡ Refused 9 2
+  low-byte-first : verdict "01030304\n050100\n" ≡ Refused 9 2
+  line-after : verdict "01030304\n050001\n050002\n" ≡ Refused 9 3
+
+number-9 : Number9
+unfolding verdict
+number-9 = record { empty-text = refl; no-end-line = refl; wrong-count = refl; low-byte-first = refl; line-after = refl }
+
+-- "8 | more than 64 separations"
+record Number8 : Type 0 where
+  sixty-four : bytesVerdict (separated 64 ++ codes "050041\n") ≡ Accepted
+  sixty-five : bytesVerdict (separated 65) ≡ Refused 8 66
+
+number-8 : Number8
+unfolding bytesVerdict separated
+number-8 = record { sixty-four = refl; sixty-five = refl }
+
+-- two faults in one line, and in two lines
+record Order : Type 0 where
+  after-the-end : verdict "01030304\n050001\nz" ≡ Refused 9 3
+  digit-before-kind : verdict "01030304\n06000z\n" ≡ Refused 2 2
+  kind-before-header : verdict "01030304\n0103\n" ≡ Refused 3 2
+  header-before-size : verdict "01030304\n01310304\n" ≡ Refused 4 2
+  header-before-range : verdict "020000\n" ≡ Refused 4 1
+  header-before-ascent : verdict "01030304\n01020304\n" ≡ Refused 4 2
+  header-before-count : verdict "050001\n" ≡ Refused 4 1
+  range-before-ascent : verdict "01030304\n03000001\n020300\n" ≡ Refused 6 3
+  range-before-many : bytesVerdict (separated 64 ++ codes "040900\n") ≡ Refused 6 66
+  ascent-before-many : bytesVerdict (separated 64 ++ codes "040000\n") ≡ Refused 7 66
+  first-line-decides : verdict "01030304\n020300\n0z\n" ≡ Refused 6 2
+
+order : Order
+unfolding verdict bytesVerdict separated
+order =
+    record {
+      after-the-end = refl;
+      digit-before-kind = refl;
+      kind-before-header = refl;
+      header-before-size = refl;
+      header-before-range = refl;
+      header-before-ascent = refl;
+      header-before-count = refl;
+      range-before-ascent = refl;
+      range-before-many = refl;
+      ascent-before-many = refl;
+      first-line-decides = refl;
+    }

@@ -1,0 +1,37 @@
+-- The flat bytes of transfer records: three each, and read back they are the records.
+use Prim.Native.Nat.{ℕ, zero, suc, _*_, _/_, _%_, _≤_, _<_}
+use native.Mathlib.Omega.{arith}
+use mathlib.Core.Path.{_≡_, refl, ap, _∙_}
+use mathlib.Core.List.{List, [], _∷_}
+use lib.ListN.{length}
+use Rattle.rehearsal.specs.declared.Transfer.{Transfer}
+use Rattle.rehearsal.specs.Transfers.{flatTransfers}
+
+unfoldable pub flatBytes : List Transfer → List ℕ
+flatBytes [] = []
+flatBytes (t ∷ ts) = t .subject ∷ t .object ∷ t .mode ∷ flatBytes ts
+
+pub flat-and-back : (ts : List Transfer) → flatTransfers (flatBytes ts) ≡ ts
+unfolding flatBytes flatTransfers
+flat-and-back [] = refl
+flat-and-back (t ∷ ts) = ap (λ us. t ∷ us) (flat-and-back ts)
+
+pub flat-length : (ts : List Transfer) → length (flatBytes ts) ≡ 3 * length ts
+unfolding flatBytes
+flat-length [] = refl
+flat-length (t ∷ ts) = omega (arith, flat-length ts)
+
+-- every flat list of whole threes is one of these
+pub back-and-flat : (bytes : List ℕ) → length bytes % 3 ≡ 0 → flatBytes (flatTransfers bytes) ≡ bytes
+unfolding flatBytes flatTransfers
+back-and-flat [] e = refl
+back-and-flat (s ∷ []) e = absurd (omega arith)
+back-and-flat (s ∷ o ∷ []) e = absurd (omega arith)
+back-and-flat (s ∷ o ∷ m ∷ bytes) e = ap (λ rest. s ∷ o ∷ m ∷ rest) (back-and-flat bytes (omega arith))
+
+pub transfers-length : (bytes : List ℕ) → length (flatTransfers bytes) ≡ length bytes / 3
+unfolding flatTransfers
+transfers-length [] = refl
+transfers-length (s ∷ []) = refl
+transfers-length (s ∷ o ∷ []) = refl
+transfers-length (s ∷ o ∷ m ∷ bytes) = omega (arith, transfers-length bytes)
