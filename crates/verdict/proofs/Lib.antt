@@ -1,0 +1,4 @@
+-- Laws of the shown chain and of the first broken separation.
+pub mod Verdicts
+pub mod Determined
+pub mod Example
