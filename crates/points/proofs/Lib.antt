@@ -1,2 +1,6 @@
--- Flow and the shown chain, computed.
+-- Executable versions of the relations, and the worked points.
 pub mod Computed
+pub mod ComputedSheet
+pub mod ComputedQuestions
+pub mod Table
+pub mod WorkedOutput

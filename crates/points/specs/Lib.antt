@@ -1,1 +1,2 @@
--- Nothing yet.
+-- The worked points of document 01, as one table.
+pub mod Points
