@@ -4,9 +4,10 @@ use mathlib.Core.Bool.{true, false}
 use mathlib.Core.List.{List, [], _∷_}
 use Prim.Native.Nat.{ℕ}
 use native.Mathlib.Omega.{arith}
+use lib.Dec.{lit<}
 use lib.ListN.{replicate}
 use Rattle.answers.specs.Call.{firstRefusal, _then_, eachBelow}
-use Rattle.answers.specs.Rows.{anyBelow, over, count}
+use Rattle.answers.specs.Rows.{Bytes, anyBelow, over, count}
 use Rattle.answers.specs.Sheet.{Lent, lent, counts, sheetOf, entities, Sound}
 use Rattle.answers.specs.Refusals.{sheetRefusals, pairRefusals, separationRefusals}
 use Rattle.answers.proofs.Accepted.{tables-passed, separations-passed}
@@ -104,3 +105,7 @@ least-sound : Sound (sheetOf least 2 (0 ∷ 0 ∷ 0 ∷ 1 ∷ []))
 unfolding firstRefusal sheetRefusals anyBelow separationRefusals pairRefusals _then_ eachBelow least
 least-sound =
     sound-of least 2 _ (tables-passed false false least refl .sized) (omega arith) (separations-passed 2 (0 ∷ 0 ∷ 0 ∷ 1 ∷ []) 2 refl)
+
+-- in a table of two rows, the byte at 0 x 2 + 1 is that of 0 to 1
+0-to-1 : Bytes 2 (0 ∷ 1 ∷ 0 ∷ 0 ∷ []) 0 1
+0-to-1 = record { source = lit< tt; target = lit< tt; byte = refl }

@@ -26,6 +26,12 @@ pub record Marked (n : ℕ) (R : ℕ → ℕ → Type 0) (table : List ℕ) : Ty
   pub size : length table ≡ n * n
   pub bytes : (x y : ℕ) → x < n → y < n → Mark (R x y) (at table n x y)
 
+-- the relation that the bytes of a table of n rows give: x to y where the byte is 1
+pub record Bytes (n : ℕ) (table : List ℕ) (x y : ℕ) : Type 0 where
+  pub source : x < n
+  pub target : y < n
+  pub byte : at table n x y ≡ 1
+
 -- "Bytes past the used part are neither judged nor altered": the used part, and behind it what the buffer held there
 unfoldable pub over : List ℕ → List ℕ → List ℕ
 over used buffer = used ++ drop (length used) buffer

@@ -60,7 +60,8 @@ byte-letter v h = rw (le-ltb v 10 h)
 
 pub value-low : (b : ℕ) → isDigit b ≡ true → digitValue b < 16
 value-low b e =
-    ⊎-elim (λ (d : (48 ≤ b) × (b ≤ 57)). omega (arith, value-decimal b (d .1))) (λ (l : (97 ≤ b) × (b ≤ 102)). omega (arith, value-letter b (omega arith)))
+    ⊎-elim (λ (d : (48 ≤ b) × (b ≤ 57)). omega (arith, value-decimal b (d .1)))
+    (λ (l : (97 ≤ b) × (b ≤ 102)). omega (arith, value-letter b (omega arith)))
     (ranges b e)
 
 pub byte-of-value : (b : ℕ) → isDigit b ≡ true → digitByte (digitValue b) ≡ b

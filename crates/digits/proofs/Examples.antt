@@ -1,10 +1,9 @@
 -- Digits, bytes and lines, computed.
-use Prim.Native.Nat.{ℕ}
 use mathlib.Core.Path.{_≡_, refl}
-use mathlib.Core.Bool.{Bool, true, false}
-use mathlib.Core.List.{List, [], _∷_, map}
+use mathlib.Core.Bool.{true, false}
+use mathlib.Core.List.{[], _∷_, map}
 use Rattle.digits.specs.Digit.{isDigit, digitValue, digitByte, digitPairs, toBytes, toDigits}
-use Rattle.digits.specs.Line.{Line, line, joined, lines, nonEmpty, soundLine, lineOf, lineSize, sizeOf, lineStart, lineEnd}
+use Rattle.digits.specs.Line.{line, joined, lines, nonEmpty, soundLine, lineOf, lineSize, sizeOf, lineStart, lineEnd}
 use Rattle.digits.proofs.Text.{codes}
 
 -- the first and the last digit of each range, and the bytes next to them

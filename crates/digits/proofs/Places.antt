@@ -1,13 +1,12 @@
 -- Where line number k lies: the bytes from its start to its end are its digits, and a line that is not there lies at the end.
 use Prim.Native.Nat.{ℕ, zero, suc, _+_, _-_, _≤_}
-use mathlib.Core.Path.{_≡_, ap, refl, sym, _∙_}
+use mathlib.Core.Path.{_≡_, ap, refl, _∙_}
 use mathlib.Core.Bool.{Bool, true, false, cond}
-use mathlib.Core.List.{List, [], _∷_, _++_, append-assoc}
-use native.Mathlib.Nat.{le-of-suc-le-suc}
+use mathlib.Core.List.{List, [], _∷_, append-assoc}
 use native.Mathlib.Omega.{arith}
 use lib.ListN.{length, getD, take, drop, length-append, List·getD-eq-default}
 use lib.Seq.{take-all, take-append-seam, drop-append-add}
-use Rattle.digits.specs.Line.{Line, line, feed, noLine, lines, lineSize, sizeOf, lineStart, lineEnd}
+use Rattle.digits.specs.Line.{Line, feed, noLine, lines, lineSize, sizeOf, lineStart, lineEnd}
 use Rattle.digits.proofs.Lines.{lineText, whole, whole-lines}
 
 -- the digits of line number k + 1: none where there is no such line

@@ -7,7 +7,7 @@ use Prim.Native.Nat.{ℕ, _+_, _*_}
 use denote.Ref.{RefT, now}
 use Rattle.answers.specs.declared.Told.{Told}
 use Rattle.answers.specs.Call.{told}
-use Rattle.answers.specs.Rows.{over, count}
+use Rattle.answers.specs.Rows.{Bytes, over, count}
 use Rattle.answers.specs.Sheet.{Lent}
 use Rattle.answers.specs.Part.{Part}
 use Rattle.answers.proofs.Calls.{determined}
@@ -18,7 +18,6 @@ use Rattle.theory.proofs.Orders.{one-label, one-class, one-greatest, one-order}
 use Rattle.theory.proofs.Effects.{one-effect}
 use Rattle.flow.specs.declared.Compared.{Compared}
 use Rattle.flow.specs.declared.Compared.the-variants.{Equal, Below, Above, Incomparable, Refused}
-use Rattle.flow.specs.Table.{Bytes}
 use Rattle.flow.specs.Fill.{Fills}
 use Rattle.flow.specs.Questions.{Answered, Flows, Labels, Names, Flags}
 use Rattle.flow.specs.Compare.{Comparison, compared, comparison, ComparesTo}

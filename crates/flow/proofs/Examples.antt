@@ -7,14 +7,14 @@ use native.Mathlib.Omega.{arith}
 use lib.Dec.{lit<}
 use lib.ListN.{replicate}
 use Rattle.answers.specs.Call.{firstRefusal, _then_}
-use Rattle.answers.specs.Rows.{at, Mark, one, none, over, anyBelow}
+use Rattle.answers.specs.Rows.{Bytes, at, Mark, one, none, over, anyBelow}
 use Rattle.answers.specs.Sheet.{Sheet, counts}
 use Rattle.theory.specs.Flow.{here}
 use Rattle.theory.proofs.Flows.{flow-closed}
 use Rattle.access.specs.Channel.{Channel, reads, writes}
 use Rattle.theory.specs.Order.{below, Compares, only-there}
 use Rattle.theory.proofs.Orders.{EqualAnswers}
-use Rattle.flow.specs.Table.{Bytes, byteRefusals, flowRefusals, entityRefusals, pairAskedRefusals}
+use Rattle.flow.specs.Table.{byteRefusals, flowRefusals, entityRefusals, pairAskedRefusals}
 use Rattle.flow.specs.Fill.{SheetFlow}
 use Rattle.flow.specs.Questions.{askedRefusals, bothAskedRefusals}
 use Rattle.flow.specs.Effects.{effectRefusals}
@@ -27,11 +27,11 @@ table a b c d = a ∷ b ∷ c ∷ d ∷ replicate 12540 255
 
 there : Bytes 2 (table 1 1 0 1) 0 1
 unfolding table
-there = record { source = lit< tt; target = lit< tt; flows = refl }
+there = record { source = lit< tt; target = lit< tt; byte = refl }
 
 not-back : Bytes 2 (table 1 1 0 1) 1 0 → ⊥
 unfolding table
-not-back b = omega (arith, b .flows)
+not-back b = omega (arith, b .byte)
 
 0-below-1 : Compares (Bytes 2 (table 1 1 0 1)) 0 1 below
 0-below-1 = only-there there not-back

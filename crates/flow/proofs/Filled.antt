@@ -6,7 +6,7 @@ use mathlib.Core.List.{List, _++_}
 use native.Mathlib.Nat.{mul-le-mul-right}
 use native.Mathlib.Omega.{arith}
 use lib.ListN.{length, getD, drop, List·getD-append}
-use Rattle.answers.specs.Rows.{at, Mark, Marked, over}
+use Rattle.answers.specs.Rows.{Bytes, at, Mark, Marked, over}
 use Rattle.answers.specs.Sheet.{Sheet, entities}
 use Rattle.answers.proofs.Marks.{mark-of, marked-yes}
 use Rattle.answers.proofs.Products.{place-below}
@@ -17,7 +17,6 @@ use Rattle.theory.proofs.Flows.{Has, flow-reflexive, flow-transitive, flow-more
 use Rattle.theory.proofs.Orders.{Agree, EqualAnswers, equal-answers, label-of-flow, flow-of-label}
 use Rattle.theory.proofs.Effects.{more-gains, fewer-loses}
 use Rattle.access.specs.Channel.{Channel}
-use Rattle.flow.specs.Table.{Bytes}
 use Rattle.flow.specs.Fill.{SheetFlow, Filled}
 
 -- the bytes of a table are those of the buffer that it stands in front of
@@ -32,8 +31,8 @@ module _ {n : ℕ} {R : ℕ → ℕ → Type 0} {table : List ℕ} (m : Marked n
   marked-agrees =
       record {
         there = λ x y hx hy r.
-            record { source = hx; target = hy; flows = byte-in-front n table buffer x y (m .size) hx hy ∙ mark-of (m .bytes x y hx hy) r };
-        back = λ x y hx hy b. marked-yes (m .bytes x y hx hy) (sym (byte-in-front n table buffer x y (m .size) hx hy) ∙ b .flows);
+            record { source = hx; target = hy; byte = byte-in-front n table buffer x y (m .size) hx hy ∙ mark-of (m .bytes x y hx hy) r };
+        back = λ x y hx hy b. marked-yes (m .bytes x y hx hy) (sym (byte-in-front n table buffer x y (m .size) hx hy) ∙ b .byte);
       }
 
 -- what filling left in the flow buffer

@@ -4,10 +4,10 @@ use mathlib.Core.Path.{_≡_}
 use mathlib.Core.List.{List}
 use mathlib.Core.Option.{Option, some, none}
 use Rattle.answers.specs.Call.{Outcome}
+use Rattle.answers.specs.Rows.{Bytes}
 use Rattle.theory.specs.Order.{Order, equal, below, above, incomparable, Compares}
 use Rattle.flow.specs.declared.Compared.{Compared}
 use Rattle.flow.specs.declared.Compared.the-variants.{Equal, Below, Above, Incomparable, Refused}
-use Rattle.flow.specs.Table.{Bytes}
 use Rattle.flow.specs.Questions.{bothAskedRefusals}
 
 -- "Where an answer is an enum, a definition gives this paper's number and values for each of its cases"

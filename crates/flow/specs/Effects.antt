@@ -5,9 +5,9 @@ use mathlib.Core.Bool.{_||_}
 use mathlib.Core.List.{List}
 use Rattle.answers.specs.Sizes.{leastFlow, leastEffect}
 use Rattle.answers.specs.Call.{Refusal, _then_, Outcome, left}
-use Rattle.answers.specs.Rows.{Row, over, shorter}
+use Rattle.answers.specs.Rows.{Bytes, Row, over, shorter}
 use Rattle.theory.specs.Effect.{Effect}
-use Rattle.flow.specs.Table.{Bytes, flowRefusals, byteRefusals}
+use Rattle.flow.specs.Table.{flowRefusals, byteRefusals}
 
 -- "Calls on a flow table: 1, 5, 12": the before table's bytes, then the after table's
 unfoldable pub effectRefusals : ℕ → List ℕ → List ℕ → List ℕ → List Refusal

@@ -6,9 +6,9 @@ use mathlib.Core.List.{List}
 use Rattle.answers.specs.declared.Told.{Told}
 use Rattle.answers.specs.Sizes.{leastLabel}
 use Rattle.answers.specs.Call.{Refusal, _then_, Outcome, told, toldAndLeft}
-use Rattle.answers.specs.Rows.{Mark, over, count, shorter}
+use Rattle.answers.specs.Rows.{Bytes, Mark, over, count, shorter}
 use Rattle.theory.specs.Order.{Label, ClassName, Greatest}
-use Rattle.flow.specs.Table.{Bytes, flowRefusals, entityRefusals, pairAskedRefusals}
+use Rattle.flow.specs.Table.{flowRefusals, entityRefusals, pairAskedRefusals}
 
 -- the refusals of a question on x, and of one on x and y
 unfoldable pub askedRefusals : ℕ → List ℕ → ℕ → List Refusal

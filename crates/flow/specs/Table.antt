@@ -1,18 +1,12 @@
--- A flow table in memory: the relation that its bytes give, and the refusals that every call on one shares.
-use Prim.Native.Nat.{ℕ, _*_, _<_}
-use mathlib.Core.Path.{_≡_}
+-- A flow table in memory: the refusals that every call on one shares. "Questions on a flow table are defined by its bytes alone": by the
+-- relation `Bytes n table`, in which x flows to y where the byte "at x x N + y" is 1.
+use Prim.Native.Nat.{ℕ, _*_}
 use mathlib.Core.Bool.{Bool}
 use mathlib.Core.List.{List, [], _∷_}
 use lib.Dec.{leb, eqb}
 use Rattle.answers.specs.Sizes.{mostEntities, leastFlow}
 use Rattle.answers.specs.Call.{Refusal, _if_, _then_}
 use Rattle.answers.specs.Rows.{at, anyBelow, shorter, exceeds, someAbove}
-
--- "Questions on a flow table are defined by its bytes alone": x flows to y by the byte "at x x N + y"
-pub record Bytes (n : ℕ) (table : List ℕ) (x y : ℕ) : Type 0 where
-  pub source : x < n
-  pub target : y < n
-  pub flows : at table n x y ≡ 1
 
 -- "12 | a flow table byte above 1, or a 0 on its diagonal"
 unfoldable pub byteRefusals : ℕ → List ℕ → List Refusal

@@ -1,7 +1,8 @@
 -- One step of the check: what a line that passes has passed, how the check goes on, and that a text that passes is one of frames.
 use Prim.Native.Nat.{ℕ, zero, suc, _+_, _<_}
 use mathlib.Core.Path.{_≡_, ap, refl, sym, _∙_}
-use mathlib.Core.Bool.{Bool, true, false, true≢false}
+use mathlib.Core.Logic.{_≢_}
+use mathlib.Core.Bool.{Bool, true, false, cond, true≢false}
 use mathlib.Core.List.{List, [], _∷_, map}
 use native.Mathlib.Omega.{arith}
 use borrow.Author.Tests.{leb-false, lt-leb}
@@ -11,7 +12,6 @@ use Rattle.frames.specs.declared.Frame.{Frame}
 use Rattle.frames.specs.declared.Parsed.{Parsed}
 use Rattle.frames.specs.declared.Parsed.the-variants.{NoBytes, NoFrame, Good}
 use Rattle.frames.specs.declared.Passed.{Passed}
-use Rattle.frames.specs.declared.Verdict.{Verdict}
 use Rattle.frames.specs.declared.Verdict.the-variants.{Refused, Accepted}
 use Rattle.frames.specs.Frame.{textOf, key}
 use Rattle.frames.specs.Check.{
@@ -80,7 +80,8 @@ pub check-go : (k : Passed) (p : Parsed) (ps : List Parsed) → firstRefusal (li
 unfolding check
 check-go k p ps e = rw (e, check)
 
-pub check-stop : (k : Passed) (p : Parsed) (ps : List Parsed) (n : ℕ) → firstRefusal (lineRefusals k p) ≡ suc n → check k (p ∷ ps) ≡ Refused (suc n) (k .lines + 1)
+pub check-stop : (k : Passed) (p : Parsed) (ps : List Parsed) (n : ℕ) → firstRefusal (lineRefusals k p) ≡ suc n →
+    check k (p ∷ ps) ≡ Refused (suc n) (k .lines + 1)
 unfolding check
 check-stop k p ps n e = rw (e, check)
 
@@ -94,6 +95,20 @@ line-passed k p ps h = go (firstRefusal (lineRefusals k p)) refl
     go : (n : ℕ) → firstRefusal (lineRefusals k p) ≡ n → (firstRefusal (lineRefusals k p) ≡ 0) × (check (nextLine k p) ps ≡ Accepted)
     go zero e = (e, rw (check-go k p ps e) at h)
     go (suc n) e = absurd (not-refused (rw (check-stop k p ps n e) at h))
+
+-- "0 | done" is the number of no refusal
+pub refused-number : (k : Passed) (ps : List Parsed) (n line : ℕ) → check k ps ≡ Refused n line → n ≢ 0
+unfolding check
+refused-number k [] n line h = go (k .ended) h
+  where
+    go : (b : Bool) → cond b Accepted (Refused 9 (k .lines + 1)) ≡ Refused n line → n ≢ 0
+    go true e z = absurd (not-refused (sym e))
+    go false e z = let same : 9 ≡ n = cc in omega arith
+refused-number k (p ∷ ps) n line h = go (firstRefusal (lineRefusals k p)) refl (refused-number (nextLine k p) ps n line)
+  where
+    go : (m : ℕ) → firstRefusal (lineRefusals k p) ≡ m → (check (nextLine k p) ps ≡ Refused n line → n ≢ 0) → n ≢ 0
+    go zero e later z = later (rw (check-go k p ps e) at h) z
+    go (suc m) e later z = let same : suc m ≡ n = cc (check-stop k p ps m e) in omega arith
 
 -- a frame that passes, and the lines after it; and back
 pub frame-passed : (k : Passed) (f : Frame) (ps : List Parsed) → check k (Good f ∷ ps) ≡ Accepted → Fine k f × (check (next k f) ps ≡ Accepted)

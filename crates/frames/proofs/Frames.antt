@@ -7,7 +7,7 @@ use native.Mathlib.Omega.{arith}
 use lib.Dec.{eqb}
 use borrow.Author.Tests.{eqb-true}
 use Rattle.digits.specs.Digit.{digitPairs, toBytes, toDigits}
-use Rattle.digits.specs.Line.{Line, line, feed, lines, nonEmpty, soundLine, lineOf}
+use Rattle.digits.specs.Line.{Line, line, lines, nonEmpty, soundLine, lineOf}
 use Rattle.digits.proofs.Digits.{Bytes, both-true, digits-back, bytes-back, pairs-bytes, bytes-pairs}
 use Rattle.digits.proofs.Lines.{lineText, whole, whole-lines, first-line}
 use Rattle.frames.specs.declared.Frame.{Frame}
@@ -55,7 +55,8 @@ four-bytes : (k a b c : ℕ) (f : Frame) → ofFour k a b c ≡ Good f → frame
 unfolding ofFour frameBytes
 four-bytes k a b c f = go (eqb k 1) (eqb k 3) refl refl
   where
-    go : (x y : Bool) → eqb k 1 ≡ x → eqb k 3 ≡ y → cond x (Good (Header a b c)) (cond y (Good (Permit a b c)) NoFrame) ≡ Good f → frameBytes f ≡ k ∷ a ∷ b ∷ c ∷ []
+    go : (x y : Bool) → eqb k 1 ≡ x → eqb k 3 ≡ y →
+        cond x (Good (Header a b c)) (cond y (Good (Permit a b c)) NoFrame) ≡ Good f → frameBytes f ≡ k ∷ a ∷ b ∷ c ∷ []
     go true y p q e = same-frame f (Header a b c) _ e (kind k 1 _ p)
     go false true p q e = same-frame f (Permit a b c) _ e (kind k 3 _ q)
     go false false p q e = absurd (no-frame e)
@@ -87,7 +88,8 @@ pub line-read : (l : Line) (f : Frame) → parse l ≡ Good f → (lineText l �
 unfolding parse soundLine lineText lineOf
 line-read l f = go (soundLine l) refl
   where
-    go : (x : Bool) → soundLine l ≡ x → cond x (frameOf (toBytes (l .digits))) NoBytes ≡ Good f → (lineText l ≡ lineOf (frameBytes f)) × Bytes (frameBytes f)
+    go : (x : Bool) → soundLine l ≡ x → cond x (frameOf (toBytes (l .digits))) NoBytes ≡ Good f →
+        (lineText l ≡ lineOf (frameBytes f)) × Bytes (frameBytes f)
     go true s e =
         let a = both-true (l .ended && nonEmpty (l .digits)) (digitPairs (l .digits)) s in
         let b = both-true (l .ended) (nonEmpty (l .digits)) (a .0) in

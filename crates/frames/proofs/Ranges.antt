@@ -2,8 +2,8 @@
 use Prim.Native.Nat.{ℕ, _+_, _*_, _≤_, _<_}
 use mathlib.Core.Path.{_≡_, refl}
 use mathlib.Core.Logic.{_↔_}
-use mathlib.Core.Bool.{Bool, true, false, not, _||_, true≢false}
-use lib.Dec.{leb, ltb, eqb}
+use mathlib.Core.Bool.{Bool, true, false, _||_, true≢false}
+use lib.Dec.{leb, ltb}
 use borrow.Author.Tests.{leb-false, lt-leb, ltb-false, le-ltb, eqb-true, eq-eqb, not-false}
 use Rattle.answers.specs.Sheet.{entities}
 use Rattle.answers.specs.Sizes.{mostSubjects, mostObjects, mostRoles, mostSeparations}
