@@ -6,7 +6,8 @@ use mathlib.Core.Bool.{Bool, true, false, cond, true≢false}
 use mathlib.Core.List.{List, [], _∷_, map}
 use native.Mathlib.Omega.{arith}
 use borrow.Author.Tests.{leb-false, lt-leb}
-use Rattle.answers.specs.Call.{firstRefusal}
+use lib.Dec.{T, ltb}
+use Rattle.answers.specs.Call.{_if_, firstRefusal}
 use Rattle.answers.proofs.Calls.{passed as none-held}
 use Rattle.frames.specs.declared.Frame.{Frame}
 use Rattle.frames.specs.declared.Parsed.{Parsed}
@@ -128,19 +129,14 @@ pub nothing-after : (k : Passed) (f : Frame) (ps : List Parsed) → k .ended ≡
 nothing-after k f ps e h = true≢false (sym e ∙ frame-passed k f ps h .0 .not-ended)
 
 -- ---- a text that passes is one of frames
-no-bytes-refused : (k : Passed) → firstRefusal (lineRefusals k NoBytes) ≡ 0 → ⊥
-unfolding lineRefusals parsedRefusals
-no-bytes-refused k e = true≢false (none-held 2 true [] tt (none-held 9 (k .ended) _ tt e .1) .0)
-
-no-frame-refused : (k : Passed) → firstRefusal (lineRefusals k NoFrame) ≡ 0 → ⊥
-unfolding lineRefusals parsedRefusals
-no-frame-refused k e = true≢false (none-held 3 true [] tt (none-held 9 (k .ended) _ tt e .1) .0)
+always-refused : (m n : ℕ) (t : Bool) → T (ltb 0 m) → T (ltb 0 n) → firstRefusal ((m if t) ∷ (n if true) ∷ []) ≡ 0 → ⊥
+always-refused m n t p q e = true≢false (none-held n true [] q (none-held m t _ p e .1) .0)
 
 pub all-frames : (k : Passed) (ps : List Parsed) → check k ps ≡ Accepted → ps ≡ map Good (framesOf ps)
-unfolding framesOf nextLine
+unfolding framesOf nextLine lineRefusals parsedRefusals
 all-frames k [] h = refl
-all-frames k (NoBytes ∷ ps) h = absurd (no-bytes-refused k (line-passed k NoBytes ps h .0))
-all-frames k (NoFrame ∷ ps) h = absurd (no-frame-refused k (line-passed k NoFrame ps h .0))
+all-frames k (NoBytes ∷ ps) h = absurd (always-refused 9 2 (k .ended) tt tt (line-passed k NoBytes ps h .0))
+all-frames k (NoFrame ∷ ps) h = absurd (always-refused 9 3 (k .ended) tt tt (line-passed k NoFrame ps h .0))
 all-frames k (Good f ∷ ps) h = ap (λ (l : List Parsed). Good f ∷ l) (all-frames (next k f) ps (frame-passed k f ps h .1))
 
 pub frames-again : (fs : List Frame) → framesOf (map Good fs) ≡ fs

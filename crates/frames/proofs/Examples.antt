@@ -1,8 +1,11 @@
 -- A text for every refusal, and two faults in one line: which number is answered, at which line.
 use mathlib.Core.Path.{_≡_, refl}
-use mathlib.Core.List.{_++_}
+use mathlib.Core.List.{[], _∷_, _++_}
 use Rattle.digits.proofs.Text.{codes}
+use Rattle.frames.specs.declared.Frame.the-variants.{Header, End}
 use Rattle.frames.specs.declared.Verdict.the-variants.{Refused, Accepted}
+use Rattle.frames.specs.Check.{framesOf}
+use Rattle.frames.proofs.Checks.{TextOf, accepted-frames}
 use Rattle.frames.proofs.Verdicts.{bytesVerdict, verdict, separated}
 
 record Passing : Type 0 where
@@ -98,18 +101,6 @@ number-7 : Number7
 unfolding verdict
 number-7 = record { same-line = refl; lower-kind = refl; lower-second = refl; lower-third = refl; other-mode = refl }
 
--- "9 | no end line, a wrong count in it, or bytes after it"
-record Number9 : Type 0 where
-  empty-text : verdict "" ≡ Refused 9 1
-  no-end-line : verdict "01030304\n020000\n" ≡ Refused 9 3
-  wrong-count : verdict "01030304\n050002\n" ≡ Refused 9 2
-  low-byte-first : verdict "01030304\n050100\n" ≡ Refused 9 2
-  line-after : verdict "01030304\n050001\n050002\n" ≡ Refused 9 3
-
-number-9 : Number9
-unfolding verdict
-number-9 = record { empty-text = refl; no-end-line = refl; wrong-count = refl; low-byte-first = refl; line-after = refl }
-
 -- "8 | more than 64 separations"
 record Number8 : Type 0 where
   sixty-four : bytesVerdict (separated 64 ++ codes "050041\n") ≡ Accepted
@@ -118,6 +109,27 @@ record Number8 : Type 0 where
 number-8 : Number8
 unfolding bytesVerdict separated
 number-8 = record { sixty-four = refl; sixty-five = refl }
+
+-- "9 | no end line, a wrong count in it, or bytes after it"
+record Number9 : Type 0 where
+  empty-text : verdict "" ≡ Refused 9 1
+  no-end-line : verdict "01030304\n020000\n" ≡ Refused 9 3
+  wrong-count : verdict "01030304\n050002\n" ≡ Refused 9 2
+  low-byte-first : verdict "01030304\n050100\n" ≡ Refused 9 2
+  line-after : verdict "01030304\n050001\n050002\n" ≡ Refused 9 3
+  empty-line-after : verdict "01030304\n050001\n\n" ≡ Refused 9 3
+
+number-9 : Number9
+unfolding verdict
+number-9 =
+    record {
+      empty-text = refl;
+      no-end-line = refl;
+      wrong-count = refl;
+      low-byte-first = refl;
+      line-after = refl;
+      empty-line-after = refl;
+    }
 
 -- two faults in one line, and in two lines
 record Order : Type 0 where
@@ -149,3 +161,8 @@ order =
       ascent-before-many = refl;
       first-line-decides = refl;
     }
+
+-- the least text consists of two frames
+least-frames : TextOf (codes "01000000\n050001\n") (Header 0 0 0 ∷ End 0 1 ∷ [])
+unfolding verdict framesOf
+least-frames = accepted-frames (codes "01000000\n050001\n") (passing .least)

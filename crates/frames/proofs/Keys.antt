@@ -53,3 +53,8 @@ key-order f g hf hg = (λ h. ascends h (decLt (byteOf f 0) (byteOf g 0)), below)
     below : LineBefore f g → key f < key g
     below (inl h) = omega (arith, key-bytes f, key-bytes g, a)
     below (inr h) = omega (arith, key-bytes f, key-bytes g, before-key _ _ _ _ (a .1) (b .1) (h .1))
+
+-- the two separations of the printed sheet of document 01
+in-order : LineBefore (Separate 0 4) (Separate 4 2)
+unfolding Bytes frameBytes key
+in-order = key-order (Separate 0 4) (Separate 4 2) (omega arith) (omega arith) .0 (omega arith)

@@ -7,7 +7,7 @@ use Rattle.answers.specs.declared.Counts.{Counts}
 use Rattle.answers.specs.Sheet.{Lent}
 use Rattle.answers.proofs.Calls.{determined}
 use Rattle.rehearsal.specs.declared.Act.{Act}
-use Rattle.rehearsal.specs.declared.Act.the-variants.{Moves, OutOfRange, NotPermitted}
+use Rattle.rehearsal.specs.declared.Act.the-variants.{Moves}
 use Rattle.rehearsal.specs.declared.Transfer.{Transfer}
 use Rattle.rehearsal.specs.declared.Tally.{Tally}
 use Rattle.rehearsal.specs.Transfers.{Way, toSubject, toObject, Comes, moves, outside, barred, AllCome, none, next}
@@ -40,14 +40,17 @@ module _ {c : Counts} {ch : ℕ → ℕ → Type 0} where
   one-list none none = refl
   one-list (next p ps) (next q qs) = ap₂ _∷_ (one-act p q) (one-list ps qs)
 
-  pub one-rehearsal : {ts : List Transfer} {marks verdicts : List ℕ} {t : Tally} {r r′ : Rehearsed} → Rehearses c ch ts marks verdicts t r → Rehearses c ch ts marks verdicts t r′ → r ≡ r′
-  one-rehearsal {marks = marks} {verdicts = verdicts} {t = t} p q =
-      p .result-is ∙ ap (λ acts. rehearsed acts marks verdicts t) (one-list (p .come) (q .come)) ∙ sym (q .result-is)
+  module _ {ts : List Transfer} {marks verdicts : List ℕ} {t : Tally} {r r′ : Rehearsed} where
+    pub one-rehearsal : Rehearses c ch ts marks verdicts t r → Rehearses c ch ts marks verdicts t r′ → r ≡ r′
+    one-rehearsal p q =
+        p .result-is ∙ ap (λ acts. rehearsed acts marks verdicts t) (one-list (p .come) (q .come)) ∙ sym (q .result-is)
 
--- "prove that no second answer satisfies it": for `rehearse`
-pub rehearse-determined : (l : Lent) (transfers marks verdicts : List ℕ) (t : Tally) {r r′ : Rehearsed} → RehearsesFlat l transfers marks verdicts t r → RehearsesFlat l transfers marks verdicts t r′ → r ≡ r′
-rehearse-determined l transfers marks verdicts t = determined (λ _ p q. one-rehearsal p q)
+-- "prove that no second answer satisfies it": of `rehearse` and of `rehearse_records`
+module _ (l : Lent) {marks verdicts : List ℕ} {t : Tally} {r r′ : Rehearsed} where
+  pub rehearse-determined : (transfers : List ℕ) →
+      RehearsesFlat l transfers marks verdicts t r → RehearsesFlat l transfers marks verdicts t r′ → r ≡ r′
+  rehearse-determined transfers = determined (λ _ p q. one-rehearsal p q)
 
--- and for `rehearse_records`
-pub rehearse-records-determined : (l : Lent) (transfers : List Transfer) (marks verdicts : List ℕ) (t : Tally) {r r′ : Rehearsed} → RehearsesRecords l transfers marks verdicts t r → RehearsesRecords l transfers marks verdicts t r′ → r ≡ r′
-rehearse-records-determined l transfers marks verdicts t = determined (λ _ p q. one-rehearsal p q)
+  pub rehearse-records-determined : (transfers : List Transfer) →
+      RehearsesRecords l transfers marks verdicts t r → RehearsesRecords l transfers marks verdicts t r′ → r ≡ r′
+  rehearse-records-determined transfers = determined (λ _ p q. one-rehearsal p q)

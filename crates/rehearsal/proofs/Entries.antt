@@ -1,21 +1,21 @@
 -- "a thin second entry takes a list of transfer records .. and answers the same": each result of one entry is a result of the other,
 -- at every length of the list.
 use Prim.Native.Nat.{ℕ, _%_}
-use mathlib.Core.Path.{_≡_, sym, ap, subst, _∙_}
+use mathlib.Core.Path.{_≡_, sym, ap, _∙_}
 use mathlib.Core.List.{List}
 use lib.ListN.{length}
 use Rattle.answers.specs.Call.{Refusal, firstRefusal, Outcome}
-use Rattle.answers.specs.Sheet.{Lent, sheetIn}
-use Rattle.access.specs.Channel.{Channel}
+use Rattle.answers.specs.Sheet.{Lent}
 use Rattle.rehearsal.specs.declared.Transfer.{Transfer}
 use Rattle.rehearsal.specs.declared.Tally.{Tally}
 use Rattle.rehearsal.specs.Transfers.{flatTransfers}
-use Rattle.rehearsal.specs.Rehearse.{Rehearsed, Rehearses, RehearsesFlat, RehearsesRecords}
-use Rattle.rehearsal.proofs.Flat.{flatBytes, flat-and-back, back-and-flat}
+use Rattle.rehearsal.specs.Rehearse.{Rehearsed, RehearsesFlat, RehearsesRecords}
+use Rattle.rehearsal.proofs.FlatBytes.{flatBytes, flat-and-back, back-and-flat}
 use Rattle.rehearsal.proofs.Accepted.{entries-refuse-alike}
 
 -- of an outcome only the first refusal and what is done count
-outcome-agrees : {R : Type 0} {refusals refusals′ : List Refusal} {refused : ℕ → R} {Done Done′ : R → Type 0} {r : R} → firstRefusal refusals ≡ firstRefusal refusals′ → (Done r → Done′ r) → Outcome refusals refused Done r → Outcome refusals′ refused Done′ r
+outcome-agrees : {R : Type 0} {refusals refusals′ : List Refusal} {refused : ℕ → R} {Done Done′ : R → Type 0} {r : R} →
+    firstRefusal refusals ≡ firstRefusal refusals′ → (Done r → Done′ r) → Outcome refusals refused Done r → Outcome refusals′ refused Done′ r
 outcome-agrees {refused = refused} e done o =
     record { refusal = λ some. o .refusal (λ none. some (sym e ∙ none)) ∙ ap refused e; done = λ none. done (o .done (e ∙ none)) }
 

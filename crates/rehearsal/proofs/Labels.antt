@@ -23,11 +23,13 @@ zero-where-equal a b v h = go (eqb a b) refl
     go true e = h (eqb-true a b e)
     go false e = refl
 
-pub share-outside : {ch : ℕ → ℕ → Type 0} {acts : List Act} → AllMove ch acts → (x y : ℕ) → (Flow ch x y → ⊥) → share acts x y ≡ 0
+pub share-outside : {ch : ℕ → ℕ → Type 0} {acts : List Act} → AllMove ch acts → (x y : ℕ) → (Flow ch x y → ⊥) →
+    share acts x y ≡ 0
 unfolding share
 share-outside {ch} still x y lacks = zero-where-equal x y 1 (λ e. absurd (lacks (subst (Flow ch x) e here)))
 share-outside {ch} (move {a = a} {b = b} h rest) x y lacks =
-    rw (share-outside rest x y lacks, zero-where-equal x a _ (λ e. share-outside rest b y (λ f. lacks (flow-cons (subst (λ z. ch z b) (sym e) h) f))))
+    let lacks-b : x ≡ a → Flow ch b y → ⊥ = λ e f. lacks (flow-cons (subst (λ z. ch z b) (sym e) h) f) in
+    rw (share-outside rest x y lacks, zero-where-equal x a _ (λ e. share-outside rest b y (lacks-b e)))
 share-outside (skip-outside rest) x y lacks = share-outside rest x y lacks
 share-outside (skip-barred rest) x y lacks = share-outside rest x y lacks
 

@@ -4,10 +4,15 @@ pub mod Moving
 pub mod Sums
 pub mod Shares
 pub mod Labels
-pub mod Chains
 pub mod TwoRuns
-pub mod Flat
+pub mod FlatBytes
+pub mod Chains
 pub mod Accepted
 pub mod Entries
 pub mod SameAnswers
 pub mod ShownChain
+pub mod Examples
+pub mod SmallSheet
+pub mod SmallCalls
+pub mod Instances
+pub mod RefusalOrder

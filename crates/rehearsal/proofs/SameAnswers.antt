@@ -3,6 +3,7 @@
 use Prim.Native.Nat.{ℕ, _/_, _≤_, _<_}
 use native.Mathlib.Decide.{ℕ-discrete}
 use mathlib.Core.Path.{_≡_, refl, sym, ap, subst, _∙_}
+use mathlib.Core.Logic.{_≢_}
 use mathlib.Core.List.{List}
 use lib.ListN.{length, getD, take}
 use lib.Seq.{take-at}
@@ -18,13 +19,22 @@ use Rattle.rehearsal.specs.declared.Act.{Act}
 use Rattle.rehearsal.specs.declared.Transfer.{Transfer}
 use Rattle.rehearsal.specs.declared.Tally.{Tally}
 use Rattle.rehearsal.specs.Acts.{verdictBytes}
-use Rattle.rehearsal.specs.Transfers.{flatTransfers, AllCome}
-use Rattle.rehearsal.specs.Rehearse.{Rehearsed, notRehearsed, rehearsed, Rehearses, rehearseRefusals, recordRefusals, RehearsesFlat, RehearsesRecords}
+use Rattle.rehearsal.specs.Transfers.{AllCome}
+use Rattle.rehearsal.specs.Rehearse.{
+  Rehearsed,
+  notRehearsed,
+  rehearsed,
+  Rehearses,
+  rehearseRefusals,
+  recordRefusals,
+  RehearsesFlat,
+  RehearsesRecords,
+}
 use Rattle.rehearsal.proofs.Determined.{one-list}
 use Rattle.rehearsal.proofs.Moving.{come-length}
-use Rattle.rehearsal.proofs.TwoRuns.{Starts, label-lacks}
-use Rattle.rehearsal.proofs.Flat.{transfers-length}
-use Rattle.rehearsal.proofs.Accepted.{first-passed, sheet-room, flat-refused-alike, records-refused-alike}
+use Rattle.rehearsal.proofs.TwoRuns.{Starts, TwoLendings, label-lacks}
+use Rattle.rehearsal.proofs.FlatBytes.{transfers-length}
+use Rattle.rehearsal.proofs.Accepted.{passed-room, flat-refused-alike, records-refused-alike}
 
 -- what two results of one list of k transfers among n entities have in common
 pub record Alike (n : ℕ) (ch : ℕ → ℕ → Type 0) (x k : ℕ) (r r′ : Rehearsed) : Type 0 where
@@ -35,11 +45,13 @@ pub record Alike (n : ℕ) (ch : ℕ → ℕ → Type 0) (x k : ℕ) (r r′ : R
   pub same-marks : (y : ℕ) → y < n → (Flow ch x y → ⊥) → getD (r .marks) y 0 ≡ getD (r′ .marks) y 0
 
 -- a verdict byte for each transfer stands at the start of the buffer
-pub list-verdicts : {c : Counts} {ch : ℕ → ℕ → Type 0} {ts : List Transfer} {acts : List Act} → AllCome c ch ts acts → (verdicts : List ℕ) → take (length ts) (over (verdictBytes acts) verdicts) ≡ verdictBytes acts
+pub list-verdicts : {c : Counts} {ch : ℕ → ℕ → Type 0} {ts : List Transfer} {acts : List Act} → AllCome c ch ts acts →
+    (verdicts : List ℕ) → take (length ts) (over (verdictBytes acts) verdicts) ≡ verdictBytes acts
 unfolding over
 list-verdicts come verdicts = take-at _ _ _ (come-length come)
 
-refused-alike : {n x k m : ℕ} {ch : ℕ → ℕ → Type 0} {marks marks′ verdicts verdicts′ : List ℕ} {t : Tally} {r r′ : Rehearsed} → Starts n x marks marks′ → (m ≡ 0 → ⊥) → r ≡ notRehearsed marks verdicts t m → r′ ≡ notRehearsed marks′ verdicts′ t m → Alike n ch x k r r′
+refused-alike : {n x k m : ℕ} {ch : ℕ → ℕ → Type 0} {marks marks′ verdicts verdicts′ : List ℕ} {t : Tally} {r r′ : Rehearsed} →
+    Starts n x marks marks′ → m ≢ 0 → r ≡ notRehearsed marks verdicts t m → r′ ≡ notRehearsed marks′ verdicts′ t m → Alike n ch x k r r′
 refused-alike {x = x} {ch = ch} s some p q =
     rw (p, q)
     record {
@@ -51,8 +63,10 @@ refused-alike {x = x} {ch = ch} s some p q =
     }
 
 -- over any relation of channels, and whatever is refused
-module _ {c : Counts} {ch : ℕ → ℕ → Type 0} (inside : Inside (entities c) ch) {ts : List Transfer} {marks marks′ verdicts verdicts′ : List ℕ} {t : Tally} {x : ℕ} (s : Starts (entities c) x marks marks′) {r r′ : Rehearsed} where
-  done-alike : entities c ≤ length marks → Rehearses c ch ts marks verdicts t r → Rehearses c ch ts marks′ verdicts′ t r′ → Alike (entities c) ch x (length ts) r r′
+module _ {c : Counts} {ch : ℕ → ℕ → Type 0} (inside : Inside (entities c) ch) {ts : List Transfer}
+    {marks marks′ verdicts verdicts′ : List ℕ} {t : Tally} {x : ℕ} (s : Starts (entities c) x marks marks′) {r r′ : Rehearsed} where
+  done-alike : entities c ≤ length marks → Rehearses c ch ts marks verdicts t r → Rehearses c ch ts marks′ verdicts′ t r′ →
+      Alike (entities c) ch x (length ts) r r′
   unfolding rehearsed
   done-alike room p q =
       rw (p .result-is, q .result-is, one-list (q .come) (p .come))
@@ -64,7 +78,9 @@ module _ {c : Counts} {ch : ℕ → ℕ → Type 0} (inside : Inside (entities c
         same-marks = λ y below lacks. label-lacks inside below s room (p .come) lacks;
       }
 
-  outcomes-alike : {refusals refusals′ : List Refusal} → refusals ≡ refusals′ → (firstRefusal refusals ≡ 0 → entities c ≤ length marks) → Outcome refusals (notRehearsed marks verdicts t) (Rehearses c ch ts marks verdicts t) r → Outcome refusals′ (notRehearsed marks′ verdicts′ t) (Rehearses c ch ts marks′ verdicts′ t) r′ → Alike (entities c) ch x (length ts) r r′
+  outcomes-alike : {refusals refusals′ : List Refusal} → refusals ≡ refusals′ → (firstRefusal refusals ≡ 0 → entities c ≤ length marks) →
+      Outcome refusals (notRehearsed marks verdicts t) (Rehearses c ch ts marks verdicts t) r →
+      Outcome refusals′ (notRehearsed marks′ verdicts′ t) (Rehearses c ch ts marks′ verdicts′ t) r′ → Alike (entities c) ch x (length ts) r r′
   outcomes-alike {refusals} {refusals′} same room p q = go (ℕ-discrete (firstRefusal refusals) 0)
     where
       number : firstRefusal refusals′ ≡ firstRefusal refusals
@@ -73,18 +89,25 @@ module _ {c : Counts} {ch : ℕ → ℕ → Type 0} (inside : Inside (entities c
       go : Dec (firstRefusal refusals ≡ 0) → Alike (entities c) ch x (length ts) r r′
       go (yes none) = done-alike (room none) (p .done none) (q .done (number ∙ none))
       go (no some) =
-          refused-alike s some (p .refusal some) (q .refusal (λ none. some (sym number ∙ none)) ∙ ap (notRehearsed marks′ verdicts′ t) number)
+          refused-alike s some (p .refusal some)
+          (q .refusal (λ none. some (sym number ∙ none)) ∙ ap (notRehearsed marks′ verdicts′ t) number)
 
-module _ (l : Lent) {marks marks′ verdicts verdicts′ : List ℕ} (t : Tally) {x : ℕ} (s : Starts (entities (l .counts)) x marks marks′) (same-lengths : length verdicts ≡ length verdicts′) {r r′ : Rehearsed} where
-  pub flat-alike : (transfers : List ℕ) → RehearsesFlat l transfers marks verdicts t r → RehearsesFlat l transfers marks′ verdicts′ t r′ → Alike (entities (l .counts)) (Channel (sheetIn l)) x (length transfers / 3) r r′
+-- "Both rehearsals give equal answers and counts, and an entity whose label lacks x ends with equal marks", also where they are refused
+module _ (l : Lent) {marks marks′ verdicts verdicts′ : List ℕ} (t : Tally) {x : ℕ}
+    (two : TwoLendings (entities (l .counts)) x marks marks′ verdicts verdicts′) {r r′ : Rehearsed} where
+  pub flat-alike : (transfers : List ℕ) →
+      RehearsesFlat l transfers marks verdicts t r → RehearsesFlat l transfers marks′ verdicts′ t r′ →
+      Alike (entities (l .counts)) (Channel (sheetIn l)) x (length transfers / 3) r r′
   unfolding sheetOf rehearseRefusals
   flat-alike transfers p q =
       rw (← transfers-length transfers)
-      (outcomes-alike channel-inside s (flat-refused-alike marks marks′ verdicts verdicts′ (s .apart .same-length) same-lengths l transfers t)
-      (λ none. sheet-room l marks verdicts _ (first-passed _ _ none) .room) p q)
+      (outcomes-alike channel-inside (two .starts) (flat-refused-alike two l t transfers)
+      (λ none. passed-room l marks verdicts _ _ none .room) p q)
 
-  pub records-alike : (ts : List Transfer) → RehearsesRecords l ts marks verdicts t r → RehearsesRecords l ts marks′ verdicts′ t r′ → Alike (entities (l .counts)) (Channel (sheetIn l)) x (length ts) r r′
+  pub records-alike : (ts : List Transfer) →
+      RehearsesRecords l ts marks verdicts t r → RehearsesRecords l ts marks′ verdicts′ t r′ →
+      Alike (entities (l .counts)) (Channel (sheetIn l)) x (length ts) r r′
   unfolding sheetOf recordRefusals
   records-alike ts p q =
-      outcomes-alike channel-inside s (records-refused-alike marks marks′ verdicts verdicts′ (s .apart .same-length) same-lengths l ts t)
-      (λ none. sheet-room l marks verdicts _ (first-passed _ _ none) .room) p q
+      outcomes-alike channel-inside (two .starts) (records-refused-alike two l t ts)
+      (λ none. passed-room l marks verdicts _ _ none .room) p q

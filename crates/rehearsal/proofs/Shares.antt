@@ -36,7 +36,8 @@ weighed-none n marks y h = sum-of-one n y _ h (λ x k other. rw (ne-eqb x y othe
 
 -- What a move does to one term of the sum on the left, it does to another on the right, modulo m: p is the mark at b, q that at a, s
 -- and t are their shares.
-exchange : (m old left right p q s t : ℕ) → left + p * t ≡ old + (p + q) % m * t → right + q * s ≡ old + q * (s + t) → left % m ≡ right % m
+exchange : (m old left right p q s t : ℕ) → left + p * t ≡ old + (p + q) % m * t → right + q * s ≡ old + q * (s + t) →
+    left % m ≡ right % m
 exchange m old left right p q s t e f = sym (ap (λ (r : ℕ). r % m) whole ∙ add-mul-mod-self-right left ((p + q) / m * t) m)
   where
     split : (p + q) * t ≡ (p + q) / m * m * t + (p + q) % m * t
@@ -46,12 +47,13 @@ exchange m old left right p q s t e f = sym (ap (λ (r : ℕ). r % m) whole ∙ 
     whole = omega (arith, split, add-mul p q t, mul-add q s t, mul-right-comm ((p + q) / m) m t)
 
 -- a move keeps the weighed sum, modulo 2 ^ 32
-weighed-moved : (n a b : ℕ) (acts : List Act) (marks : List ℕ) (y : ℕ) → a < n → b < n → n ≤ length marks → weighed n acts (acted (Moves a b) marks) y % 2 ^ 32 ≡ weighed n (Moves a b ∷ acts) marks y % 2 ^ 32
+weighed-moved : (n a b : ℕ) (acts : List Act) (marks : List ℕ) (y : ℕ) → a < n → b < n → n ≤ length marks →
+    weighed n acts (acted (Moves a b) marks) y % 2 ^ 32 ≡ weighed n (Moves a b ∷ acts) marks y % 2 ^ 32
 unfolding weighed share acted plus
-weighed-moved n a b acts marks y ha hb room =
+weighed-moved n a b acts marks y from to room =
     exchange (2 ^ 32) (weighed n acts marks y) _ _ (getD marks b 0) (getD marks a 0) (share acts a y) (share acts b y)
-    (sum-but-one n b new old hb (λ x k other. ap (λ (r : ℕ). r * share acts x y) (getD-set-other marks b x _ 0 other)) ∙ rw (getD-set-same marks b _ 0 (omega arith)))
-    (sum-but-one n a more old ha (λ x k other. rw (ne-eqb x a other, add-zero)) ∙ rw (eq-eqb a a refl))
+    (sum-but-one n b new old to elsewhere ∙ rw (getD-set-same marks b _ 0 (omega arith)))
+    (sum-but-one n a more old from (λ x k other. rw (ne-eqb x a other, add-zero)) ∙ rw (eq-eqb a a refl))
   where
     old : ℕ → ℕ
     old x = getD marks x 0 * share acts x y
@@ -62,19 +64,24 @@ weighed-moved n a b acts marks y ha hb room =
     more : ℕ → ℕ
     more x = getD marks x 0 * (share acts x y + cond (eqb x a) (share acts b y) 0)
 
+    elsewhere : (x : ℕ) → x < n → (x ≡ b → ⊥) → new x ≡ old x
+    elsewhere x k other = rw (getD-set-other marks b x _ 0 other)
+
 -- The final mark of y, for acts whose moves go between entities below n.
 module _ {n : ℕ} {R : ℕ → ℕ → Type 0} (inside : Inside n R) {y : ℕ} (below : y < n) where
-  pub final-mark : {acts : List Act} (marks : List ℕ) → AllMove R acts → n ≤ length marks → Marks32 marks → getD (after acts marks) y 0 ≡ weighed n acts marks y % 2 ^ 32
+  pub final-mark : {acts : List Act} (marks : List ℕ) → AllMove R acts → n ≤ length marks → Marks32 marks →
+      getD (after acts marks) y 0 ≡ weighed n acts marks y % 2 ^ 32
   unfolding after acted weighed share
   final-mark marks still room m = sym (rw (weighed-none n marks y below) (mod-eq-of-lt (m y)))
   final-mark marks (move {a = a} {b = b} {acts = acts} h rest) room m =
       let (from, to) = inside a b h in
-      final-mark _ rest (rw (acted-length (Moves a b) marks) room) (acted-marks (Moves a b) marks m) ∙ weighed-moved n a b acts marks y from to room
+      final-mark _ rest (rw (acted-length (Moves a b) marks) room) (acted-marks (Moves a b) marks m)
+      ∙ weighed-moved n a b acts marks y from to room
   final-mark marks (skip-outside rest) room m = final-mark marks rest room m
   final-mark marks (skip-barred rest) room m = final-mark marks rest room m
 
 -- of two runs from marks that differ at x only, the sums differ by x's share
-pub two-runs : (n x : ℕ) (acts : List Act) (marks marks′ : List ℕ) (y : ℕ) → DifferAt n x marks marks′ → x < n → weighed n acts marks y + getD marks′ x 0 * share acts x y ≡ weighed n acts marks′ y + getD marks x 0 * share acts x y
+pub two-runs : (n x : ℕ) (acts : List Act) (marks marks′ : List ℕ) (y : ℕ) → DifferAt n x marks marks′ → x < n →
+    weighed n acts marks y + getD marks′ x 0 * share acts x y ≡ weighed n acts marks′ y + getD marks x 0 * share acts x y
 unfolding weighed
-two-runs n x acts marks marks′ y d h =
-    sum-but-one n x (λ z. getD marks z 0 * share acts z y) (λ z. getD marks′ z 0 * share acts z y) h (λ z k other. ap (λ (r : ℕ). r * share acts z y) (d .agree z k other))
+two-runs n x acts marks marks′ y d h = sum-but-one n x _ _ h (λ z k other. rw (d .agree z k other))

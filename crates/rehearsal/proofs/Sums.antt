@@ -15,7 +15,8 @@ sum-same zero f g e = refl
 sum-same (suc n) f g e = ap₂ _+_ (sum-same n f g (λ x h. e x (omega arith))) (e n (omega arith))
 
 -- sums that may differ in the term at a only
-pub sum-but-one : (n a : ℕ) (f g : ℕ → ℕ) → a < n → ((x : ℕ) → x < n → (x ≡ a → ⊥) → f x ≡ g x) → sumBelow n f + g a ≡ sumBelow n g + f a
+pub sum-but-one : (n a : ℕ) (f g : ℕ → ℕ) → a < n → ((x : ℕ) → x < n → (x ≡ a → ⊥) → f x ≡ g x) →
+    sumBelow n f + g a ≡ sumBelow n g + f a
 unfolding sumBelow
 sum-but-one zero a f g h e = absurd (omega arith)
 sum-but-one (suc n) a f g h e = go (ℕ-discrete n a) (λ below. sum-but-one n a f g below (λ x k. e x (omega arith)))

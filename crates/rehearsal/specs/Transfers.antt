@@ -1,9 +1,7 @@
 -- Transfers, over any relation of channels: what each comes to.
-use Prim.Native.Nat.{ℕ, _-_, _<_}
+use Prim.Native.Nat.{ℕ, _<_}
 use mathlib.Core.Path.{_≡_}
-use mathlib.Core.Bool.{cond}
 use mathlib.Core.List.{List, [], _∷_}
-use lib.Dec.{ltb}
 use Rattle.answers.specs.declared.Counts.{Counts}
 use Rattle.answers.specs.Sheet.{objectEntity}
 use Rattle.rehearsal.specs.declared.Act.{Act}

@@ -1,9 +1,9 @@
 -- The flat bytes of transfer records: three each, and read back they are the records.
-use Prim.Native.Nat.{ℕ, zero, suc, _*_, _/_, _%_, _≤_, _<_}
+use Prim.Native.Nat.{ℕ, zero, suc, _*_, _/_, _%_, _<_}
 use native.Mathlib.Omega.{arith}
-use mathlib.Core.Path.{_≡_, refl, ap, _∙_}
+use mathlib.Core.Path.{_≡_, refl, ap}
 use mathlib.Core.List.{List, [], _∷_}
-use lib.ListN.{length}
+use lib.ListN.{length, getD}
 use Rattle.rehearsal.specs.declared.Transfer.{Transfer}
 use Rattle.rehearsal.specs.Transfers.{flatTransfers}
 
@@ -35,3 +35,17 @@ transfers-length [] = refl
 transfers-length (s ∷ []) = refl
 transfers-length (s ∷ o ∷ []) = refl
 transfers-length (s ∷ o ∷ m ∷ bytes) = omega (arith, transfers-length bytes)
+
+-- fields that are bytes make flat bytes
+pub record Bytes (t : Transfer) : Type 0 where
+  pub of-subject : t .subject < 256
+  pub of-object : t .object < 256
+  pub of-mode : t .mode < 256
+
+pub flat-bytes : {t : Transfer} (ts : List Transfer) → Bytes t → ((k : ℕ) → getD (flatBytes ts) k 0 < 256) →
+    (k : ℕ) → getD (flatBytes (t ∷ ts)) k 0 < 256
+unfolding flatBytes
+flat-bytes ts b rest zero = b .of-subject
+flat-bytes ts b rest (suc zero) = b .of-object
+flat-bytes ts b rest (suc (suc zero)) = b .of-mode
+flat-bytes ts b rest (suc (suc (suc k))) = rest k

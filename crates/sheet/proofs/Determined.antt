@@ -1,0 +1,25 @@
+-- The contracts of `read`, `write` and `refused_line` determine their results.
+use Prim.Native.Nat.{ℕ}
+use mathlib.Core.Path.{_≡_, sym, _∙_}
+use mathlib.Core.List.{List}
+use denote.Ref.{RefT}
+use Rattle.answers.specs.declared.Told.{Told}
+use Rattle.answers.specs.Sheet.{Lent}
+use Rattle.answers.proofs.Calls.{determined}
+use Rattle.answers.proofs.Parts.{SamePart, one-part}
+use Rattle.sheet.specs.Read.{ReadResult, Reads}
+use Rattle.sheet.specs.Write.{Writes}
+use Rattle.sheet.specs.RefusedLine.{RefusedLine}
+
+pub read-determined : (text assignment permission separations : List ℕ) {r₁ r₂ : ReadResult} →
+    Reads text assignment permission separations r₁ → Reads text assignment permission separations r₂ → r₁ ≡ r₂
+read-determined text assignment permission separations = determined (λ none d₁ d₂. d₁ ∙ sym d₂)
+
+pub write-determined : (l : Lent) (count : ℕ) (separations before : List ℕ) {r₁ r₂ : Told × List ℕ} →
+    Writes l count separations before r₁ → Writes l count separations before r₂ → r₁ ≡ r₂
+write-determined l count separations before = determined (λ none d₁ d₂. d₁ ∙ sym d₂)
+
+-- the same bytes at the same place
+pub refused-line-determined : (text : RefT (List ℕ)) (line : ℕ) {r₁ r₂ : RefT (List ℕ)} →
+    RefusedLine text line r₁ → RefusedLine text line r₂ → SamePart r₁ r₂
+refused-line-determined text line = one-part

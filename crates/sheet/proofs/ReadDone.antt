@@ -1,0 +1,86 @@
+-- `read` answers 0 exactly if every lent buffer has its least length and the text is accepted; then the tables are in the buffers.
+use Prim.Native.Nat.{ℕ, zero, suc, _≤_}
+use mathlib.Core.Path.{_≡_, refl, sym, ap, _∙_}
+use mathlib.Core.Logic.{_≢_}
+use mathlib.Core.Bool.{Bool, true, false, cond}
+use mathlib.Core.List.{List}
+use native.Mathlib.Nat.{suc-ne-zero}
+use native.Mathlib.Omega.{arith}
+use borrow.Author.Tests.{ltb-false, le-ltb}
+use lib.ListN.{length}
+use Rattle.answers.specs.Call.{firstRefusal}
+use Rattle.answers.specs.Rows.{exceeds}
+use Rattle.answers.specs.Sizes.{mostText, leastAssignment, leastPermission, leastSeparations}
+use Rattle.answers.specs.Sheet.{Sheet}
+use Rattle.answers.proofs.Calls.{passed}
+use Rattle.frames.specs.declared.Verdict.{Verdict}
+use Rattle.frames.specs.declared.Verdict.the-variants.{Refused, Accepted}
+use Rattle.frames.specs.Check.{start, check, parsedLines, framesOf}
+use Rattle.frames.proofs.Checks.{refused-number}
+use Rattle.sheet.specs.Content.{contentOf}
+use Rattle.sheet.specs.Read.{Read, refused, accepted, readBy, readLines, readText, ReadResult, readRefusals, tablesRead, readResult, Reads}
+
+-- "Least lent lengths" of the buffers that `read` is lent
+pub record ReadLong (assignment permission separations : List ℕ) : Type 0 where
+  pub assignment-long : leastAssignment ≤ length assignment
+  pub permission-long : leastPermission ≤ length permission
+  pub separations-long : leastSeparations ≤ length separations
+
+-- a text that is refused is refused by another number than 0
+lines-number : (text : List ℕ) (n line : ℕ) → readLines text ≡ refused n line → n ≢ 0
+unfolding readLines readBy
+lines-number text n line h = go (check start (parsedLines text)) (contentOf (framesOf (parsedLines text))) refl h
+  where
+    go : (v : Verdict) (said : Sheet) → check start (parsedLines text) ≡ v → readBy v said ≡ refused n line → n ≢ 0
+    go (Refused m l) said e q = let same : m ≡ n = cc in rw same at (refused-number start (parsedLines text) m l e)
+    go Accepted said e q = let z : _≡_ {A = ℕ} 0 1 = cc in absurd (omega arith)
+
+module _ (text assignment permission separations : List ℕ) where
+  abbrev refusal : ℕ
+  refusal = firstRefusal (readRefusals text assignment permission separations)
+
+  -- the text is accepted as `sheet`, whose tables are in the buffers
+  pub record ReadDone (result : ReadResult) : Type 0 where
+    pub sheet : Sheet
+    pub reads : readText text ≡ accepted sheet
+    pub long : ReadLong assignment permission separations
+    pub filled : result ≡ tablesRead assignment permission separations sheet
+
+  lengths-passed : refusal ≡ 0 → ReadLong assignment permission separations × (exceeds (length text) mostText ≡ false)
+  unfolding readRefusals
+  lengths-passed e =
+      let a = passed 1 _ _ tt e in
+      let b = passed 1 _ _ tt (a .1) in
+      let c = passed 1 _ _ tt (b .1) in
+      let d = passed 5 _ _ tt (c .1) in
+      (record { assignment-long = ltb-false _ _ (a .0); permission-long = ltb-false _ _ (b .0); separations-long = ltb-false _ _ (c .0) }, d .0)
+
+  pub lengths-pass : ReadLong assignment permission separations → exceeds (length text) mostText ≡ false → refusal ≡ 0
+  unfolding readRefusals firstRefusal
+  lengths-pass long fits = rw (le-ltb _ _ (long .assignment-long), le-ltb _ _ (long .permission-long), le-ltb _ _ (long .separations-long), fits)
+
+  module _ (result : ReadResult) (r : Reads text assignment permission separations result) where
+    pub read-done : result .reading .answer ≡ 0 → ReadDone result
+    unfolding readText readResult
+    read-done answered = go refusal refl
+      where
+        answer : {x : ReadResult} → result ≡ x → x .reading .answer ≡ 0
+        answer h = sym (ap (λ (x : ReadResult). x .reading .answer) h) ∙ answered
+
+        told-by : (x : Read) → readLines text ≡ x → result ≡ readResult assignment permission separations x → refusal ≡ 0 → ReadDone result
+        told-by (refused n line) q h none = absurd (lines-number text n line q (answer h))
+        told-by (accepted t) q h none = let p = lengths-passed none in record { sheet = t; reads = rw (p .1) q; long = p .0; filled = h }
+
+        go : (n : ℕ) → refusal ≡ n → ReadDone result
+        go zero e = told-by (readLines text) refl (r .done e) e
+        go (suc n) e = let some : refusal ≢ 0 = λ z. suc-ne-zero n (sym e ∙ z) in absurd (some (answer (r .refusal some)))
+
+    pub read-filled : (t : Sheet) → readText text ≡ accepted t → ReadLong assignment permission separations →
+        result ≡ tablesRead assignment permission separations t
+    unfolding readText readResult
+    read-filled t e long = go (exceeds (length text) mostText) refl e
+      where
+        go : (b : Bool) → exceeds (length text) mostText ≡ b → cond b (refused 5 0) (readLines text) ≡ accepted t →
+            result ≡ tablesRead assignment permission separations t
+        go true q h = let z : _≡_ {A = ℕ} 0 1 = cc in absurd (omega arith)
+        go false q h = r .done (lengths-pass long q) ∙ rw h

@@ -1,0 +1,55 @@
+-- The printed sheet of document 01: what reading makes of it, and the least sheet.
+use Prim.Native.Nat.{ℕ}
+use mathlib.Core.Path.{_≡_, refl}
+use mathlib.Core.List.{List, [], _∷_}
+use Rattle.answers.specs.Sheet.{Sheet, counts}
+use Rattle.digits.specs.Digit.{digitByte, toDigits}
+use Rattle.digits.specs.Line.{lineOf}
+use Rattle.digits.proofs.Text.{codes}
+use Rattle.frames.specs.Frame.{frameBytes, textOf}
+use Rattle.frames.specs.Check.{framesOf}
+use Rattle.frames.proofs.Verdicts.{bytesVerdict}
+use Rattle.sheet.specs.Content.{sheet, blank, add, addAll, contentOf, present, assignAt, permitAt, separates, body, opened, closing, framesIn, writeSheet}
+use Rattle.sheet.specs.Read.{Read, accepted, readBy, readLines, readText}
+
+-- To compute a text or a sheet, say `unfolding reading` or `unfolding writing`: each opens every definition that it needs, those of
+-- `bytesVerdict` among them.
+unfoldable pub reading : List ℕ → Read
+unfolding bytesVerdict framesOf blank add addAll contentOf readBy readLines readText
+reading text = readText text
+
+unfoldable pub writing : Sheet → List ℕ
+unfolding digitByte toDigits lineOf frameBytes textOf present assignAt permitAt separates body opened closing framesIn writeSheet
+writing t = writeSheet t
+
+unfoldable pub workedText : List ℕ
+unfolding codes
+workedText =
+    codes "01030304\n020000\n020101\n020202\n03000002\n03010001\n03010102\n03020201\n03030101\n03030202\n040004\n040402\n05000c\n"
+
+-- a row for each of three subjects, a row for each of four roles, and two separations
+unfoldable pub worked : Sheet
+worked =
+    sheet (counts 3 3 4)
+    (1 ∷ 0 ∷ 0 ∷ 0
+    ∷ 0 ∷ 1 ∷ 0 ∷ 0
+    ∷ 0 ∷ 0 ∷ 1 ∷ 0 ∷ [])
+    (2 ∷ 0 ∷ 0
+    ∷ 1 ∷ 2 ∷ 0
+    ∷ 0 ∷ 0 ∷ 1
+    ∷ 0 ∷ 1 ∷ 2 ∷ [])
+    (0 ∷ 4
+    ∷ 4 ∷ 2 ∷ [])
+
+pub reads-worked : readText workedText ≡ accepted worked
+unfolding reading workedText worked
+reads-worked = refl
+
+pub writes-worked : writeSheet worked ≡ workedText
+unfolding writing workedText worked
+writes-worked = refl
+
+-- "Only run: `01000000`, `050001` is accepted"
+pub reads-least : readText (codes "01000000\n050001\n") ≡ accepted (blank (counts 0 0 0))
+unfolding reading codes
+reads-least = refl
