@@ -1,5 +1,5 @@
 -- A digit and its value, and digits and the bytes that they stand for, there and back.
-use Prim.Native.Nat.{ℕ, _+_, _-_, _*_, _/_, _%_, _≤_, _<_}
+use Prim.Native.Nat.{ℕ, suc, _+_, _-_, _/_, _%_, _≤_, _<_}
 use mathlib.Core.Path.{_≡_, ap₂, refl, _∙_}
 use mathlib.Core.Bool.{Bool, true, false, _&&_, _||_, false≢true}
 use mathlib.Core.List.{List, [], _∷_}
@@ -9,7 +9,7 @@ use native.Mathlib.Nat.{div-add-mod'}
 use native.Mathlib.Decide.{decLt}
 use lib.Arith.{digits-div, digits-mod}
 use lib.Dec.{leb}
-use lib.ListN.{length}
+use lib.ListN.{length, getD}
 use borrow.Author.Tests.{leb-true, le-leb, lt-leb, lt-ltb, le-ltb}
 use Rattle.digits.specs.Digit.{isDigit, digitValue, digitByte, digitPairs, toBytes, toDigits}
 
@@ -17,6 +17,11 @@ use Rattle.digits.specs.Digit.{isDigit, digitValue, digitByte, digitPair
 unfoldable pub Bytes : List ℕ → Type 0
 Bytes [] = Unit {0}
 Bytes (b ∷ t) = (b < 256) × Bytes t
+
+pub bytes-of : (bs : List ℕ) → ((i : ℕ) → i < length bs → getD bs i 0 < 256) → Bytes bs
+unfolding Bytes
+bytes-of [] each = tt
+bytes-of (b ∷ t) each = (each 0 (omega arith), bytes-of t (λ i h. each (suc i) (omega arith)))
 
 pub both-true : (a b : Bool) → a && b ≡ true → (a ≡ true) × (b ≡ true)
 both-true true b e = (refl, e)
@@ -123,8 +128,3 @@ pub bytes-pairs : (bs : List ℕ) → Bytes bs → digitPairs (toDigits bs) ≡ 
 unfolding toDigits digitPairs Bytes
 bytes-pairs [] h = refl
 bytes-pairs (b ∷ t) h = rw (byte-digit (b / 16) (omega arith), byte-digit (b % 16) (omega arith)) (bytes-pairs t (h .1))
-
-pub digits-length : (bs : List ℕ) → length (toDigits bs) ≡ 2 * length bs
-unfolding toDigits
-digits-length [] = refl
-digits-length (b ∷ t) = omega (arith, digits-length t)

@@ -9,8 +9,8 @@ use Rattle.answers.specs.Sheet.{Sheet, entities}
 use Rattle.theory.specs.Order.{only-there}
 use Rattle.access.specs.Channel.{Channel}
 use Rattle.change.specs.Change.{withPermission}
-use Rattle.sheet.specs.Read.{accepted, readText}
-use Rattle.sheet.proofs.Worked.{workedText, worked, reads-worked}
+use Rattle.text.specs.Reading.{accepted, readText}
+use Rattle.text.proofs.Worked.{workedText, worked, reads-worked}
 use Rattle.rehearsal.specs.declared.Act.the-variants.{Moves, OutOfRange, NotPermitted}
 use Rattle.rehearsal.specs.Acts.{verdictBytes, after}
 use Rattle.rehearsal.specs.Transfers.{toSubject, toObject, moves, barred, none, next}

@@ -13,7 +13,7 @@ use Rattle.digits.specs.Digit.{digitByte, toDigits}
 use Rattle.digits.specs.Line.{lineOf}
 use Rattle.digits.proofs.Text.{codes}
 use Rattle.access.specs.Channel.{Channel}
-use Rattle.sheet.proofs.Worked.{workedText, worked, reads-worked}
+use Rattle.text.proofs.Worked.{workedText, worked, reads-worked}
 use Rattle.report.specs.Output.{EntityLine, none, next, broken, sheet-lines, Output}
 use Rattle.points.proofs.Computed.{chainb}
 use Rattle.points.proofs.ComputedSheet.{channelb, sheet-flows, sheet-chain}

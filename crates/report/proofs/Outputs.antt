@@ -5,7 +5,7 @@ use mathlib.Core.List.{List, _++_}
 use Rattle.answers.specs.Sheet.{Sheet}
 use Rattle.theory.proofs.Orders.{one-class, one-greatest, one-size}
 use Rattle.digits.specs.Line.{lineOf}
-use Rattle.sheet.specs.Read.{Read}
+use Rattle.text.specs.Reading.{Read}
 use Rattle.verdict.proofs.Verdicts.{one-finding, not-both}
 use Rattle.report.specs.Output.{EntityLine, EntityLines, none, next, VerdictLine, hold, broken, SheetLines, Printed, refusal, sheet-lines, Output}
 

@@ -8,7 +8,7 @@ use Rattle.theory.specs.Flow.{Flow}
 use Rattle.theory.specs.Chain.{Best}
 use Rattle.theory.specs.Order.{LabelSize, ClassName, Greatest}
 use Rattle.digits.specs.Line.{lineOf}
-use Rattle.sheet.specs.Read.{Read, refused, accepted, readText}
+use Rattle.text.specs.Reading.{Read, refused, accepted, readText}
 use Rattle.access.specs.Channel.{Channel}
 use Rattle.verdict.specs.Judge.{FirstBroken, AllHold}
 

@@ -13,10 +13,10 @@ use Rattle.answers.specs.Call.{firstRefusal, told}
 use Rattle.answers.specs.Rows.{over}
 use Rattle.answers.specs.Sizes.{leastSeparations, leastText}
 use Rattle.answers.specs.Sheet.{Sheet, Sound, Lent, lent, sheetOf}
-use Rattle.sheet.specs.Content.{writeSheet}
+use Rattle.text.specs.Content.{writeSheet}
 use Rattle.sheet.specs.Read.{ReadResult, tablesRead, Reads}
 use Rattle.sheet.specs.Write.{Writes, writeRefusals}
-use Rattle.sheet.proofs.RoundTrip.{accepted-sound, read-write, write-read}
+use Rattle.text.proofs.RoundTrip.{accepted-sound, read-write, write-read}
 use Rattle.sheet.proofs.Accepts.{refuses-none, refused-none}
 use Rattle.sheet.proofs.ReadDone.{ReadLong, read-done, read-filled}
 
@@ -75,7 +75,7 @@ pub read-then-write : (text assignment permission separations : List ℕ) (resul
     Reads text assignment permission separations result → result .reading .answer ≡ 0 → leastText ≤ length before →
     WritesRead result before written → written ≡ (told 0 (length text), over text before)
 read-then-write text assignment permission separations result before written r answered room w =
-    let d = read-done text assignment permission separations result r answered in
+    let d = read-done assignment permission separations text result r answered in
     rw (read-write text (d .reads)) at
     (written-back assignment permission separations (d .sheet) (accepted-sound text (d .reads)) (d .long) before written room
     (subst (λ (x : ReadResult). WritesRead x before written) (d .filled) w))
@@ -103,5 +103,5 @@ module _ (l : Lent) (count : ℕ) (listed before : List ℕ) (written : Told × 
       let t : Sheet = sheetOf l count listed in
       let d = write-done answered in
       let text-is : take (written .0 .value) (written .1) ≡ writeSheet t = rw (d .is-written) (used-part (writeSheet t) before _ refl) in
-      let filled-by = read-filled _ assignment permission separations result r t (rw text-is (write-read (d .sound))) long in
+      let filled-by = read-filled assignment permission separations _ result r t (rw text-is (write-read (d .sound))) long in
       (rw filled-by (sheet-back assignment permission separations t (d .sound)), filled-by)

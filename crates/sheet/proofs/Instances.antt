@@ -9,10 +9,10 @@ use Rattle.answers.specs.Call.{told}
 use Rattle.answers.specs.Rows.{over}
 use Rattle.answers.specs.Sizes.{leastAssignment, leastPermission, leastSeparations, leastText}
 use Rattle.answers.proofs.Calls.{accept}
-use Rattle.sheet.specs.Content.{writeSheet}
+use Rattle.text.specs.Content.{writeSheet}
 use Rattle.sheet.specs.Read.{ReadResult, tablesRead, readResult, Reads}
-use Rattle.sheet.proofs.Worked.{reading, workedText, worked}
-use Rattle.sheet.proofs.RoundTrip.{worked-sound}
+use Rattle.text.proofs.Worked.{reading, workedText, worked}
+use Rattle.text.proofs.RoundTrip.{worked-sound}
 use Rattle.sheet.proofs.ReadDone.{ReadLong, lengths-pass}
 use Rattle.sheet.proofs.Calls.{used-part, sheetRead, WritesRead, none-refused, read-then-write, write-then-read}
 
@@ -42,7 +42,7 @@ result = tablesRead assignment permission separations worked
 
 reads : Reads workedText assignment permission separations result
 unfolding reading workedText worked result readResult
-reads = accept (lengths-pass workedText assignment permission separations long refl) refl
+reads = accept (lengths-pass assignment permission separations long) refl
 
 full : leastText ≤ length text
 unfolding text

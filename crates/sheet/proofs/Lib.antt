@@ -1,16 +1,4 @@
--- The laws of a sheet's text: what is read is sound and is written back as it was, what is sound is read back as it was, and the
--- contracts of the calls determine their results. Read in this order.
-pub mod Places
-pub mod Present
-pub mod Kept
-pub mod Grown
-pub mod ReadBack
-pub mod Runs
-pub mod WriteBack
-pub mod Added
-pub mod Size
-pub mod Worked
-pub mod RoundTrip
+-- Each contract determines its result, and both round trips hold of the results of the calls. Read in this order.
 pub mod Determined
 pub mod Accepts
 pub mod ReadDone

@@ -17,8 +17,9 @@ use Rattle.frames.specs.declared.Verdict.{Verdict}
 use Rattle.frames.specs.declared.Verdict.the-variants.{Refused, Accepted}
 use Rattle.frames.specs.Check.{start, check, parsedLines, framesOf}
 use Rattle.frames.proofs.Checks.{refused-number}
-use Rattle.sheet.specs.Content.{contentOf}
-use Rattle.sheet.specs.Read.{Read, refused, accepted, readBy, readLines, readText, ReadResult, readRefusals, tablesRead, readResult, Reads}
+use Rattle.text.specs.Content.{contentOf}
+use Rattle.text.specs.Reading.{Read, refused, accepted, readBy, readLines, readText}
+use Rattle.sheet.specs.Read.{ReadResult, readRefusals, tablesRead, readResult, Reads}
 
 -- "Least lent lengths" of the buffers that `read` is lent
 pub record ReadLong (assignment permission separations : List ℕ) : Type 0 where
@@ -27,60 +28,55 @@ pub record ReadLong (assignment permission separations : List ℕ) : Type 0 wher
   pub separations-long : leastSeparations ≤ length separations
 
 -- a text that is refused is refused by another number than 0
-lines-number : (text : List ℕ) (n line : ℕ) → readLines text ≡ refused n line → n ≢ 0
-unfolding readLines readBy
-lines-number text n line h = go (check start (parsedLines text)) (contentOf (framesOf (parsedLines text))) refl h
+refusal-number : (text : List ℕ) (n line : ℕ) → readText text ≡ refused n line → n ≢ 0
+unfolding readText readLines readBy
+refusal-number text n line = go (exceeds (length text) mostText) (check start (parsedLines text)) (contentOf (framesOf (parsedLines text))) refl
   where
-    go : (v : Verdict) (said : Sheet) → check start (parsedLines text) ≡ v → readBy v said ≡ refused n line → n ≢ 0
-    go (Refused m l) said e q = let same : m ≡ n = cc in rw same at (refused-number start (parsedLines text) m l e)
-    go Accepted said e q = let z : _≡_ {A = ℕ} 0 1 = cc in absurd (omega arith)
+    go : (long : Bool) (v : Verdict) (said : Sheet) → check start (parsedLines text) ≡ v → cond long (refused 5 0) (readBy v said) ≡ refused n line → n ≢ 0
+    go true v said e q = let same : 5 ≡ n = cc in (λ z. omega arith)
+    go false (Refused m l) said e q = let same : m ≡ n = cc in rw same at (refused-number start (parsedLines text) m l e)
+    go false Accepted said e q = let z : _≡_ {A = ℕ} 0 1 = cc in absurd (omega arith)
 
-module _ (text assignment permission separations : List ℕ) where
+module _ (assignment permission separations : List ℕ) where
   abbrev refusal : ℕ
-  refusal = firstRefusal (readRefusals text assignment permission separations)
+  refusal = firstRefusal (readRefusals assignment permission separations)
 
-  -- the text is accepted as `sheet`, whose tables are in the buffers
-  pub record ReadDone (result : ReadResult) : Type 0 where
-    pub sheet : Sheet
-    pub reads : readText text ≡ accepted sheet
-    pub long : ReadLong assignment permission separations
-    pub filled : result ≡ tablesRead assignment permission separations sheet
-
-  lengths-passed : refusal ≡ 0 → ReadLong assignment permission separations × (exceeds (length text) mostText ≡ false)
+  lengths-passed : refusal ≡ 0 → ReadLong assignment permission separations
   unfolding readRefusals
   lengths-passed e =
       let a = passed 1 _ _ tt e in
       let b = passed 1 _ _ tt (a .1) in
       let c = passed 1 _ _ tt (b .1) in
-      let d = passed 5 _ _ tt (c .1) in
-      (record { assignment-long = ltb-false _ _ (a .0); permission-long = ltb-false _ _ (b .0); separations-long = ltb-false _ _ (c .0) }, d .0)
+      record { assignment-long = ltb-false _ _ (a .0); permission-long = ltb-false _ _ (b .0); separations-long = ltb-false _ _ (c .0) }
 
-  pub lengths-pass : ReadLong assignment permission separations → exceeds (length text) mostText ≡ false → refusal ≡ 0
+  pub lengths-pass : ReadLong assignment permission separations → refusal ≡ 0
   unfolding readRefusals firstRefusal
-  lengths-pass long fits = rw (le-ltb _ _ (long .assignment-long), le-ltb _ _ (long .permission-long), le-ltb _ _ (long .separations-long), fits)
+  lengths-pass long = rw (le-ltb _ _ (long .assignment-long), le-ltb _ _ (long .permission-long), le-ltb _ _ (long .separations-long))
 
-  module _ (result : ReadResult) (r : Reads text assignment permission separations result) where
-    pub read-done : result .reading .answer ≡ 0 → ReadDone result
-    unfolding readText readResult
+  -- the text is accepted as `sheet`, whose tables are in the buffers
+  pub record ReadDone (text : List ℕ) (result : ReadResult) : Type 0 where
+    pub sheet : Sheet
+    pub reads : readText text ≡ accepted sheet
+    pub long : ReadLong assignment permission separations
+    pub filled : result ≡ tablesRead assignment permission separations sheet
+
+  module _ (text : List ℕ) (result : ReadResult) (r : Reads text assignment permission separations result) where
+    pub read-done : result .reading .answer ≡ 0 → ReadDone text result
+    unfolding readResult
     read-done answered = go refusal refl
       where
         answer : {x : ReadResult} → result ≡ x → x .reading .answer ≡ 0
         answer h = sym (ap (λ (x : ReadResult). x .reading .answer) h) ∙ answered
 
-        told-by : (x : Read) → readLines text ≡ x → result ≡ readResult assignment permission separations x → refusal ≡ 0 → ReadDone result
-        told-by (refused n line) q h none = absurd (lines-number text n line q (answer h))
-        told-by (accepted t) q h none = let p = lengths-passed none in record { sheet = t; reads = rw (p .1) q; long = p .0; filled = h }
+        told-by : (x : Read) → readText text ≡ x → result ≡ readResult assignment permission separations x → refusal ≡ 0 → ReadDone text result
+        told-by (refused n line) q h none = absurd (refusal-number text n line q (answer h))
+        told-by (accepted t) q h none = record { sheet = t; reads = q; long = lengths-passed none; filled = h }
 
-        go : (n : ℕ) → refusal ≡ n → ReadDone result
-        go zero e = told-by (readLines text) refl (r .done e) e
+        go : (n : ℕ) → refusal ≡ n → ReadDone text result
+        go zero e = told-by (readText text) refl (r .done e) e
         go (suc n) e = let some : refusal ≢ 0 = λ z. suc-ne-zero n (sym e ∙ z) in absurd (some (answer (r .refusal some)))
 
     pub read-filled : (t : Sheet) → readText text ≡ accepted t → ReadLong assignment permission separations →
         result ≡ tablesRead assignment permission separations t
-    unfolding readText readResult
-    read-filled t e long = go (exceeds (length text) mostText) refl e
-      where
-        go : (b : Bool) → exceeds (length text) mostText ≡ b → cond b (refused 5 0) (readLines text) ≡ accepted t →
-            result ≡ tablesRead assignment permission separations t
-        go true q h = let z : _≡_ {A = ℕ} 0 1 = cc in absurd (omega arith)
-        go false q h = r .done (lengths-pass long q) ∙ rw h
+    unfolding readResult
+    read-filled t e long = r .done (lengths-pass long) ∙ rw e

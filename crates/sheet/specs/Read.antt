@@ -1,36 +1,15 @@
--- Reading: what a text comes to, and what the call answers and writes.
+-- `read`: what it answers and writes.
 use Prim.Native.Nat.{ℕ, _/_}
 use mathlib.Core.Path.{_≡_}
-use mathlib.Core.Bool.{cond}
 use mathlib.Core.List.{List, [], _∷_}
 use lib.ListN.{length}
-use Rattle.answers.specs.Sizes.{mostText, leastAssignment, leastPermission, leastSeparations}
+use Rattle.answers.specs.Sizes.{leastAssignment, leastPermission, leastSeparations}
 use Rattle.answers.specs.Call.{Refusal, _if_, Outcome}
-use Rattle.answers.specs.Rows.{over, shorter, exceeds}
+use Rattle.answers.specs.Rows.{over, shorter}
 use Rattle.answers.specs.Sheet.{Sheet, counts}
-use Rattle.frames.specs.declared.Verdict.{Verdict}
-use Rattle.frames.specs.declared.Verdict.the-variants.{Refused, Accepted}
-use Rattle.frames.specs.Check.{start, check, parsedLines, framesOf}
 use Rattle.sheet.specs.declared.Reading.{Reading}
-use Rattle.sheet.specs.Content.{contentOf}
+use Rattle.text.specs.Reading.{Read, refused, accepted, readText}
 
--- what a text of any length comes to: a refusal by its number and its line, or a sheet
-pub data Read : Type 0 where
-  refused : ℕ → ℕ → Read
-  accepted : Sheet → Read
-
-unfoldable pub readBy : Verdict → Sheet → Read
-readBy (Refused n line) t = refused n line
-readBy Accepted t = accepted t
-
-unfoldable pub readLines : List ℕ → Read
-readLines text = readBy (check start (parsedLines text)) (contentOf (framesOf (parsedLines text)))
-
--- "then 5 for the text length, .. with line 0. Then line by line"
-unfoldable pub readText : List ℕ → Read
-readText text = cond (exceeds (length text) mostText) (refused 5 0) (readLines text)
-
--- ---- the call
 -- the answer, and the lent buffers afterwards
 pub record ReadResult : Type 0 where
   pub reading : Reading
@@ -38,14 +17,10 @@ pub record ReadResult : Type 0 where
   pub permission : List ℕ
   pub separations : List ℕ
 
--- "Order when reading a sheet: 1, then 5 for the text length, both with line 0"
-unfoldable pub readRefusals : List ℕ → List ℕ → List ℕ → List ℕ → List Refusal
-readRefusals text assignment permission separations =
-    (1 if shorter assignment leastAssignment)
-    ∷ (1 if shorter permission leastPermission)
-    ∷ (1 if shorter separations leastSeparations)
-    ∷ (5 if exceeds (length text) mostText)
-    ∷ []
+-- "Order when reading a sheet: 1, then 5 for the text length, both with line 0": 1; the rest is what reading makes of the text
+unfoldable pub readRefusals : List ℕ → List ℕ → List ℕ → List Refusal
+readRefusals assignment permission separations =
+    (1 if shorter assignment leastAssignment) ∷ (1 if shorter permission leastPermission) ∷ (1 if shorter separations leastSeparations) ∷ []
 
 -- "Every refusal changes no lent byte .. Every other number in its answer, a refused line apart, is 0"
 abbrev pub notRead : List ℕ → List ℕ → List ℕ → ℕ → ℕ → ReadResult
@@ -75,6 +50,6 @@ readResult assignment permission separations (accepted t) = tablesRead assignmen
 -- the contract of `read`
 abbrev pub Reads : List ℕ → List ℕ → List ℕ → List ℕ → ReadResult → Type 0
 Reads text assignment permission separations =
-    Outcome (readRefusals text assignment permission separations)
+    Outcome (readRefusals assignment permission separations)
     (λ n. notRead assignment permission separations n 0)
-    (λ result. result ≡ readResult assignment permission separations (readLines text))
+    (λ result. result ≡ readResult assignment permission separations (readText text))

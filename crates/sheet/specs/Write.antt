@@ -10,7 +10,7 @@ use Rattle.answers.specs.Call.{Refusal, _then_, Outcome, told, toldAndLeft}
 use Rattle.answers.specs.Rows.{over, shorter}
 use Rattle.answers.specs.Sheet.{Lent, sheetOf, entities}
 use Rattle.answers.specs.Refusals.{sheetRefusals, separationRefusals}
-use Rattle.sheet.specs.Content.{writeSheet}
+use Rattle.text.specs.Content.{writeSheet}
 
 -- "1, 5, 11; then, if it takes separations, 8, and then the first faulty pair, 6 before 7"
 unfoldable pub writeRefusals : Lent → ℕ → List ℕ → List ℕ → List Refusal

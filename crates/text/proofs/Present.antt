@@ -7,8 +7,8 @@ use native.Mathlib.Omega.{arith}
 use lib.ListN.{length, getD, set}
 use lib.Seq.{getD-set-other}
 use Rattle.frames.specs.declared.Frame.{Frame}
-use Rattle.sheet.specs.Content.{present}
-use Rattle.sheet.proofs.Places.{lineKey, place, place-le, place-at}
+use Rattle.text.specs.Content.{present}
+use Rattle.text.proofs.TableKeys.{lineKey, place, place-le, place-at}
 
 module _ (frame : ℕ → ℕ → Frame) where
   pub present-none : (i : ℕ) (t : List ℕ) → ((j : ℕ) → getD t j 0 ≡ 0) → present frame i t ≡ []

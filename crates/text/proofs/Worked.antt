@@ -9,8 +9,8 @@ use Rattle.digits.proofs.Text.{codes}
 use Rattle.frames.specs.Frame.{frameBytes, textOf}
 use Rattle.frames.specs.Check.{framesOf}
 use Rattle.frames.proofs.Verdicts.{bytesVerdict}
-use Rattle.sheet.specs.Content.{sheet, blank, add, addAll, contentOf, present, assignAt, permitAt, separates, body, opened, closing, framesIn, writeSheet}
-use Rattle.sheet.specs.Read.{Read, accepted, readBy, readLines, readText}
+use Rattle.text.specs.Content.{sheet, blank, add, addAll, contentOf, present, assignAt, permitAt, separates, body, opened, closing, framesIn, writeSheet}
+use Rattle.text.specs.Reading.{Read, accepted, readBy, readLines, readText}
 
 -- To compute a text or a sheet, say `unfolding reading` or `unfolding writing`: each opens every definition that it needs, those of
 -- `bytesVerdict` among them.

@@ -20,8 +20,8 @@ use Rattle.frames.specs.Frame.{key}
 use Rattle.frames.specs.Check.{passed, next, misplaced, oversized, outOfRange, tooMany, miscounted, check}
 use Rattle.frames.proofs.Checks.{Fine, frame-passes}
 use Rattle.frames.proofs.Ranges.{assign-range, permit-range, separate-range, separate-room, end-count}
-use Rattle.sheet.specs.Content.{closing}
-use Rattle.sheet.proofs.Places.{lineKey}
+use Rattle.text.specs.Content.{closing}
+use Rattle.text.proofs.TableKeys.{lineKey}
 
 -- frames between a header with the counts c and the end: in range, with keys that rise strictly from lo to below hi, and n of them
 -- separations

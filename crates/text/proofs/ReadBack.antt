@@ -19,9 +19,9 @@ use Rattle.frames.specs.Check.{passed, start, next, misplaced, check}
 use Rattle.frames.proofs.Frames.{FrameBytes}
 use Rattle.frames.proofs.Checks.{Fine, frame-passed, end-lacks, nothing-after}
 use Rattle.frames.proofs.Ranges.{header-fits, assign-range, permit-range, separate-range, separate-room, end-count}
-use Rattle.sheet.specs.Content.{blank, add, addAll, contentOf, opened, closing, framesIn}
-use Rattle.sheet.proofs.Kept.{sound-blank, sound-assign, sound-permit, sound-separate}
-use Rattle.sheet.proofs.Grown.{
+use Rattle.text.specs.Content.{blank, add, addAll, contentOf, opened, closing, framesIn}
+use Rattle.text.proofs.Kept.{sound-blank, sound-assign, sound-permit, sound-separate}
+use Rattle.text.proofs.Grown.{
   Reached,
   reached-blank,
   opened-blank,

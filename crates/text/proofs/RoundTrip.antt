@@ -18,13 +18,13 @@ use Rattle.frames.specs.Frame.{textOf}
 use Rattle.frames.specs.Check.{start, check, parsedLines, framesOf}
 use Rattle.frames.proofs.Frames.{text-written}
 use Rattle.frames.proofs.Checks.{accepted-frames, frames-again}
-use Rattle.sheet.specs.Content.{contentOf, framesIn, writeSheet}
-use Rattle.sheet.specs.Read.{refused, accepted, readBy, readLines, readText}
-use Rattle.sheet.proofs.Worked.{workedText, worked, reads-worked}
-use Rattle.sheet.proofs.ReadBack.{read-back}
-use Rattle.sheet.proofs.WriteBack.{frames-pass}
-use Rattle.sheet.proofs.Added.{content-back}
-use Rattle.sheet.proofs.Size.{text-fits, frames-bytes}
+use Rattle.text.specs.Content.{contentOf, framesIn, writeSheet}
+use Rattle.text.specs.Reading.{refused, accepted, readBy, readLines, readText}
+use Rattle.text.proofs.Worked.{workedText, worked, reads-worked}
+use Rattle.text.proofs.ReadBack.{read-back}
+use Rattle.text.proofs.WriteBack.{frames-pass}
+use Rattle.text.proofs.Added.{content-back}
+use Rattle.text.proofs.Size.{text-fits, frames-bytes}
 
 -- only a text within its size that passes is accepted, as what its frames say
 accepted-as : (long : Bool) (v : Verdict) (said t : Sheet) → cond long (refused 5 0) (readBy v said) ≡ accepted t → (v ≡ Accepted) × (said ≡ t)

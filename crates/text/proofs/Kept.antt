@@ -13,7 +13,7 @@ use Rattle.answers.specs.declared.Counts.{Counts}
 use Rattle.answers.specs.Sizes.{mostSubjects, mostObjects, mostRoles, mostSeparations}
 use Rattle.answers.specs.Sheet.{Sheet, Sound, entities, from, to, pairKey, separationKey}
 use Rattle.frames.specs.declared.Frame.the-variants.{Assign, Permit, Separate}
-use Rattle.sheet.specs.Content.{sheet, blank, add}
+use Rattle.text.specs.Content.{sheet, blank, add}
 
 -- ---- tables of bytes
 pub zeros : (n i : ℕ) → _≡_ {A = ℕ} (getD (replicate n 0) i 0) 0

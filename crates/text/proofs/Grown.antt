@@ -11,11 +11,12 @@ use Rattle.answers.specs.Sheet.{Sheet, Sound, separationKey}
 use Rattle.frames.specs.declared.Frame.{Frame}
 use Rattle.frames.specs.declared.Frame.the-variants.{Header, Assign, Permit, Separate}
 use Rattle.frames.specs.Frame.{key}
-use Rattle.sheet.specs.Content.{blank, add, assignAt, permitAt, separates, body, opened}
-use Rattle.sheet.proofs.Places.{lineKey, place, place-low}
-use Rattle.sheet.proofs.Present.{present-none, set-last, set-above}
-use Rattle.sheet.proofs.Kept.{zeros, key-before, key-last}
+use Rattle.text.specs.Content.{blank, add, assignAt, permitAt, separates, body, opened}
+use Rattle.text.proofs.TableKeys.{lineKey, place, place-low}
+use Rattle.text.proofs.Present.{present-none, set-last, set-above}
+use Rattle.text.proofs.Kept.{zeros, key-before, key-last}
 
+-- every byte that is not 0, and every separation, stands at a key of at most `last`
 pub record Reached (t : Sheet) (last : ℕ) : Type 0 where
   pub assignment : (i : ℕ) → last < place 2 (t .counts .roles) i → getD (t .assignment) i 0 ≡ 0
   pub permission : (i : ℕ) → last < place 3 (t .counts .objects) i → getD (t .permission) i 0 ≡ 0

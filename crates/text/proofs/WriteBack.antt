@@ -14,9 +14,9 @@ use Rattle.frames.specs.Frame.{key}
 use Rattle.frames.specs.Check.{start, next, misplaced, outOfRange, tooMany, miscounted, check}
 use Rattle.frames.proofs.Checks.{Fine, frame-passes}
 use Rattle.frames.proofs.Ranges.{header-fits}
-use Rattle.sheet.specs.Content.{present, assignAt, permitAt, separates as separateFrames, body, opened, framesIn}
-use Rattle.sheet.proofs.Places.{lineKey, place, row-wide, in-row, place-lt, place-low, place-high}
-use Rattle.sheet.proofs.Runs.{Run, none, assigns, permits, separates, run-append, run-passes}
+use Rattle.text.specs.Content.{present, assignAt, permitAt, separates as separateFrames, body, opened, framesIn}
+use Rattle.text.proofs.TableKeys.{lineKey, place, row-wide, in-row, place-lt, place-low, place-high}
+use Rattle.text.proofs.Runs.{Run, none, assigns, permits, separates, run-append, run-passes}
 
 -- a table of rows of w bytes, whose frames may stand in a run at their place
 module _ (c : Counts) (kind rows w most : ℕ) (frame : ℕ → ℕ → Frame) (short : rows ≤ 256) (fit : w ≤ 256)

@@ -14,9 +14,9 @@ use Rattle.digits.proofs.Digits.{Bytes}
 use Rattle.frames.specs.declared.Frame.{Frame}
 use Rattle.frames.specs.Frame.{frameBytes, textOf}
 use Rattle.frames.proofs.Frames.{FrameBytes}
-use Rattle.sheet.specs.Content.{present, assignAt, permitAt, separates as separateFrames, body, opened, closing, framesIn, writeSheet}
-use Rattle.sheet.proofs.Runs.{Run, none, assigns, permits, separates}
-use Rattle.sheet.proofs.WriteBack.{body-run}
+use Rattle.text.specs.Content.{present, assignAt, permitAt, separates as separateFrames, body, opened, closing, framesIn, writeSheet}
+use Rattle.text.proofs.Runs.{Run, none, assigns, permits, separates}
+use Rattle.text.proofs.WriteBack.{body-run}
 
 -- ---- the length of a text
 text-append : (fs gs : List Frame) → length (textOf (fs ++ gs)) ≡ length (textOf fs) + length (textOf gs)
