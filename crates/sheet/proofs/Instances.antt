@@ -1,13 +1,14 @@
 -- The laws of the calls at the printed sheet of document 01, in buffers of their least lengths: their premises can be met.
 use Prim.Native.Nat.{ℕ, _≤_}
 use mathlib.Core.Path.{_≡_, refl, sym}
-use mathlib.Core.List.{List}
+use mathlib.Core.List.{List, []}
 use native.Mathlib.Nat.{le-of-eq}
 use lib.ListN.{length, take, replicate, length-replicate}
 use Rattle.answers.specs.declared.Told.{Told}
 use Rattle.answers.specs.Call.{told}
 use Rattle.answers.specs.Rows.{over}
 use Rattle.answers.specs.Sizes.{leastAssignment, leastPermission, leastSeparations, leastText}
+use Rattle.answers.specs.Sheet.{counts}
 use Rattle.answers.proofs.Calls.{accept}
 use Rattle.text.specs.Content.{writeSheet}
 use Rattle.sheet.specs.Read.{ReadResult, tablesRead, readResult, Reads}
@@ -67,3 +68,17 @@ reads-again = rw (text-back, used-part workedText text (length workedText) refl)
 tables-back : result ≡ tablesRead assignment permission separations (sheetRead result)
 unfolding written
 tables-back = write-then-read _ _ _ _ written writes refl assignment permission separations result long reads-again .1
+
+-- an empty text is refused by 9 at line 1, and no buffer changes
+abbrev refusedResult : ReadResult
+refusedResult =
+    record {
+      reading = record { answer = 9; line = 1; counts = counts 0 0 0; separations = 0 };
+      assignment = assignment;
+      permission = permission;
+      separations = separations;
+    }
+
+empty-text : Reads [] assignment permission separations refusedResult
+unfolding reading readResult
+empty-text = accept (lengths-pass assignment permission separations long) refl
