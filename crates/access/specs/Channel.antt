@@ -6,10 +6,11 @@ use mathlib.Core.Logic.{_⊎_}
 use Rattle.answers.specs.declared.Counts.{Counts}
 use Rattle.answers.specs.Sheet.{Sheet, objectEntity, assignedByte, modeByte}
 
--- "(1 read, 2 write, 3 both)"
+-- "(1 read, 2 write, 3 both)": read
 abbrev pub read : ℕ
 read = 1
 
+-- and write
 abbrev pub write : ℕ
 write = 2
 

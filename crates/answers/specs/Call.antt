@@ -11,6 +11,7 @@ pub record Refusal : Type 0 where
   pub number : ℕ
   pub test : Bool
 
+-- number n, if the test holds
 infix 20 _if_
 abbrev pub _if_ : ℕ → Bool → Refusal
 n if t = record { number = n; test = t }

@@ -7,6 +7,7 @@ use Rattle.answers.specs.declared.Counts.{Counts}
 use Rattle.answers.specs.Rows.{at}
 use Rattle.answers.specs.Sizes.{mostSubjects, mostObjects, mostRoles, mostSeparations}
 
+-- "01 S O R"
 abbrev pub counts : ℕ → ℕ → ℕ → Counts
 counts s o r = record { subjects = s; objects = o; roles = r }
 
@@ -24,6 +25,7 @@ pub record Lent : Type 0 where
   pub assignment : List ℕ
   pub permission : List ℕ
 
+-- what is lent to a call on tables
 abbrev pub lent : Counts → List ℕ → List ℕ → Lent
 lent c assignment permission = record { counts = c; assignment = assignment; permission = permission }
 

@@ -11,14 +11,15 @@ use Rattle.answers.specs.Sheet.{Lent, Sheet}
 use Rattle.answers.specs.Refusals.{sheetRefusals}
 use Rattle.access.specs.Channel.{read, write, Has}
 
--- the place of an assignment byte, "at s x R + r", and of a permission byte, "at r x O + o"
+-- the place of an assignment byte, "at s x R + r"
 abbrev pub assignmentPlace : Counts → ℕ → ℕ → ℕ
 assignmentPlace c s r = s * c .roles + r
 
+-- "at r x O + o"
 abbrev pub permissionPlace : Counts → ℕ → ℕ → ℕ
 permissionPlace c r o = r * c .objects + o
 
--- ---- a changed sheet
+-- ---- a changed sheet: "A change sets one assignment byte"
 unfoldable pub withAssignment : Sheet → ℕ → ℕ → ℕ → Sheet
 withAssignment t s r value =
     record {
@@ -28,6 +29,7 @@ withAssignment t s r value =
       separations = t .separations;
     }
 
+-- "or one permission byte"
 unfoldable pub withPermission : Sheet → ℕ → ℕ → ℕ → Sheet
 withPermission t r o mode =
     record {
@@ -50,6 +52,7 @@ pub record PermissionAdds (old new : ℕ) : Type 0 where
 abbrev pub AssignmentTakes : (old new : ℕ) → Type 0
 AssignmentTakes old new = AssignmentAdds new old
 
+-- the same of a mode
 abbrev pub PermissionTakes : (old new : ℕ) → Type 0
 PermissionTakes old new = PermissionAdds new old
 
@@ -60,6 +63,7 @@ setAssignmentRefusals l s r value =
     sheetRefusals false false l
     then ((6 if leb (l .counts .subjects) s) ∷ (6 if leb (l .counts .roles) r) ∷ (6 if ltb 1 value) ∷ [])
 
+-- the same of a role, an object and a mode; a mode of 0 takes away
 unfoldable pub setPermissionRefusals : Lent → ℕ → ℕ → ℕ → List Refusal
 setPermissionRefusals l r o mode =
     sheetRefusals false false l

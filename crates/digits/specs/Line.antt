@@ -15,6 +15,7 @@ pub record Line : Type 0 where
   pub digits : List ℕ
   pub ended : Bool
 
+-- a line of these digits
 abbrev pub line : List ℕ → Bool → Line
 line digits ended = record { digits = digits; ended = ended }
 
@@ -28,6 +29,7 @@ unfoldable pub lines : List ℕ → List Line
 lines [] = []
 lines (b ∷ t) = cond (eqb b feed) (line [] true ∷ lines t) (joined b (lines t))
 
+-- not "no digits"
 unfoldable pub nonEmpty : List ℕ → Bool
 nonEmpty [] = false
 nonEmpty (a ∷ t) = true
@@ -45,6 +47,7 @@ lineOf bytes = toDigits bytes ++ (feed ∷ [])
 unfoldable pub lineSize : Line → ℕ
 lineSize l = length (l .digits) + cond (l .ended) 1 0
 
+-- how many bytes lines have together
 unfoldable pub sizeOf : List Line → ℕ
 sizeOf [] = 0
 sizeOf (l ∷ ls) = lineSize l + sizeOf ls
@@ -54,6 +57,7 @@ unfoldable pub lineStart : List ℕ → ℕ → ℕ
 lineStart t zero = length t
 lineStart t (suc k) = sizeOf (take k (lines t))
 
+-- what stands where there is no such line
 abbrev pub noLine : Line
 noLine = line [] false
 

@@ -15,12 +15,15 @@ pub record Comparison : Type 0 where
   pub number : ℕ
   pub order : Option Order
 
+-- number 0, and the order
 abbrev pub compared : Order → Comparison
 compared o = record { number = 0; order = some o }
 
+-- the number of a refusal, and no order
 abbrev pub notCompared : ℕ → Comparison
 notCompared n = record { number = n; order = none }
 
+-- "for each of its cases"
 unfoldable pub comparison : Compared → Comparison
 comparison Equal = compared equal
 comparison Below = compared below

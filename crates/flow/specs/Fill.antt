@@ -15,6 +15,7 @@ use Rattle.access.specs.Channel.{Channel}
 abbrev pub SheetFlow : Sheet → ℕ → ℕ → Type 0
 SheetFlow t = Flow (Channel t)
 
+-- "Order for every call on tables: 1, 5, 11"
 unfoldable pub fillRefusals : Lent → List ℕ → List Refusal
 fillRefusals l flow = sheetRefusals (shorter flow leastFlow) false l
 

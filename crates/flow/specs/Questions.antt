@@ -10,10 +10,11 @@ use Rattle.answers.specs.Rows.{Bytes, Mark, over, count, shorter}
 use Rattle.theory.specs.Order.{Label, ClassName, Greatest}
 use Rattle.flow.specs.Table.{flowRefusals, entityRefusals, pairAskedRefusals}
 
--- the refusals of a question on x, and of one on x and y
+-- the refusals of a question on x: "1, 5, 12, 10"
 unfoldable pub askedRefusals : ℕ → List ℕ → ℕ → List Refusal
 askedRefusals n table x = flowRefusals false n table then entityRefusals n x
 
+-- and of one on x and y
 unfoldable pub bothAskedRefusals : ℕ → List ℕ → ℕ → ℕ → List Refusal
 bothAskedRefusals n table x y = flowRefusals false n table then pairAskedRefusals n x y
 

@@ -21,5 +21,6 @@ flowRefusals short n table =
 unfoldable pub entityRefusals : ℕ → ℕ → List Refusal
 entityRefusals n x = (10 if leb n x) ∷ []
 
+-- the same of two entities
 unfoldable pub pairAskedRefusals : ℕ → ℕ → ℕ → List Refusal
 pairAskedRefusals n x y = (10 if leb n x) ∷ (10 if leb n y) ∷ []

@@ -18,6 +18,8 @@ use Rattle.frames.specs.declared.Verdict.{Verdict}
 use Rattle.frames.specs.declared.Verdict.the-variants.{Refused, Accepted}
 use Rattle.frames.specs.Frame.{parse, key}
 
+-- what is known of the lines before: how many, whether the end line was among them, the header's counts, the key of the last, the
+-- separations
 abbrev pub passed : ℕ → Bool → Counts → ℕ → ℕ → Passed
 passed lines ended c last separations =
     record { lines = lines; ended = ended; counts = c; last = last; separations = separations }
@@ -95,6 +97,7 @@ parsedRefusals k (Good f) = frameRefusals k f
 unfoldable pub lineRefusals : Passed → Parsed → List Refusal
 lineRefusals k p = (9 if k .ended) ∷ parsedRefusals k p
 
+-- the same after a line that is not refused
 unfoldable pub nextLine : Passed → Parsed → Passed
 nextLine k NoBytes = k
 nextLine k NoFrame = k

@@ -23,6 +23,7 @@ frameBytes (End h l) = 5 ∷ h ∷ l ∷ []
 unfoldable pub ofThree : ℕ → ℕ → ℕ → Parsed
 ofThree k a b = cond (eqb k 2) (Good (Assign a b)) (cond (eqb k 4) (Good (Separate a b)) (cond (eqb k 5) (Good (End a b)) NoFrame))
 
+-- "01 S O R" and "03 r o m" have four
 unfoldable pub ofFour : ℕ → ℕ → ℕ → ℕ → Parsed
 ofFour k a b c = cond (eqb k 1) (Good (Header a b c)) (cond (eqb k 3) (Good (Permit a b c)) NoFrame)
 

@@ -28,6 +28,7 @@ pub record Leaves (t : Sheet) (transfers : List Transfer) (marks : List ℕ) (ve
   pub told : verdictBytes acts ≡ verdicts
   pub marks-left : after acts marks ≡ left
 
+-- the table
 pub record Points (t : Sheet) : Type 0 where
   -- "1. flow 0 to 4: yes. 2. flow 4 to 0: no. 3. flow 5 to 2: yes. 4. flow 4 to 5: no."
   pub point-1 : Flows t 0 4

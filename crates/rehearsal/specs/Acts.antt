@@ -11,6 +11,7 @@ verdict (Moves a b) = 0
 verdict OutOfRange = 10
 verdict NotPermitted = 16
 
+-- a verdict byte for each
 unfoldable pub verdictBytes : List Act → List ℕ
 unfolding verdict
 verdictBytes acts = map verdict acts

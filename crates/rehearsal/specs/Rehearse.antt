@@ -18,6 +18,7 @@ use Rattle.rehearsal.specs.declared.Tally.{Tally}
 use Rattle.rehearsal.specs.Acts.{verdictBytes, after}
 use Rattle.rehearsal.specs.Transfers.{flatTransfers, AllCome}
 
+-- the counts of 0, 10 and 16
 abbrev pub tally : ℕ → ℕ → ℕ → Tally
 tally applied outside barred = record { applied = applied; outside = outside; barred = barred }
 
@@ -63,6 +64,7 @@ pub record Rehearses (c : Counts) (ch : ℕ → ℕ → Type 0) (ts : List Trans
 abbrev pub mostTallied : ℕ
 mostTallied = 4294963199
 
+-- any of the three counts
 unfoldable pub tallyRefusals : Tally → List Refusal
 tallyRefusals t =
     (17 if exceeds (t .applied) mostTallied) ∷ (17 if exceeds (t .outside) mostTallied) ∷ (17 if exceeds (t .barred) mostTallied) ∷ []

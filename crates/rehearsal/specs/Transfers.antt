@@ -8,6 +8,7 @@ use Rattle.rehearsal.specs.declared.Act.{Act}
 use Rattle.rehearsal.specs.declared.Act.the-variants.{Moves, OutOfRange, NotPermitted}
 use Rattle.rehearsal.specs.declared.Transfer.{Transfer}
 
+-- "A transfer is subject, object, mode"
 abbrev pub transfer : ℕ → ℕ → ℕ → Transfer
 transfer s o m = record { subject = s; object = o; mode = m }
 

@@ -45,6 +45,7 @@ pub record SheetLines (t : Sheet) (out : List ℕ) : Type 0 where
 unfoldable pub refusalLine : ℕ → ℕ → List ℕ
 refusalLine n line = lineOf (0x80 ∷ n ∷ (line / 256) ∷ (line % 256) ∷ [])
 
+-- what is printed for what reading makes of a text
 pub data Printed : Read → List ℕ → Type 0 where
   refusal : {n line : ℕ} {out : List ℕ} → out ≡ refusalLine n line → Printed (refused n line) out
   sheet-lines : {t : Sheet} {out : List ℕ} → SheetLines t out → Printed (accepted t) out

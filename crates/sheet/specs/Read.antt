@@ -43,6 +43,7 @@ tablesRead assignment permission separations t =
       separations = over (t .separations) separations;
     }
 
+-- the result for what reading makes of the text
 unfoldable pub readResult : List ℕ → List ℕ → List ℕ → Read → ReadResult
 readResult assignment permission separations (refused n line) = notRead assignment permission separations n line
 readResult assignment permission separations (accepted t) = tablesRead assignment permission separations t

@@ -8,6 +8,7 @@ use Rattle.frames.specs.declared.Frame.{Frame}
 use Rattle.frames.specs.declared.Frame.the-variants.{Header, Assign, Permit, Separate, End}
 use Rattle.frames.specs.Frame.{textOf}
 
+-- a sheet of these tables
 abbrev pub sheet : Counts → List ℕ → List ℕ → List ℕ → Sheet
 sheet c assignment permission separations =
     record { counts = c; assignment = assignment; permission = permission; separations = separations }
@@ -24,6 +25,7 @@ add t (Permit r o m) = sheet (t .counts) (t .assignment) (set (t .permission) (r
 add t (Separate x y) = sheet (t .counts) (t .assignment) (t .permission) (t .separations ++ (x ∷ y ∷ []))
 add t (End h l) = t
 
+-- what all of them say
 unfoldable pub addAll : Sheet → List Frame → Sheet
 addAll t [] = t
 addAll t (f ∷ fs) = addAll (add t f) fs
@@ -47,6 +49,7 @@ assignAt roles i v = Assign (i / roles) (i % roles)
 unfoldable pub permitAt : ℕ → ℕ → ℕ → Frame
 permitAt objects i v = Permit (i / objects) (i % objects) v
 
+-- "04 x y", a frame for each pair
 unfoldable pub separates : List ℕ → List Frame
 separates [] = []
 separates (x ∷ []) = []
@@ -58,6 +61,7 @@ body t =
     present (assignAt (t .counts .roles)) 0 (t .assignment)
     ++ (present (permitAt (t .counts .objects)) 0 (t .permission) ++ separates (t .separations))
 
+-- "01 S O R | header, first line only"
 unfoldable pub opened : Sheet → List Frame
 opened t = Header (t .counts .subjects) (t .counts .objects) (t .counts .roles) ∷ body t
 
@@ -65,6 +69,7 @@ opened t = Header (t .counts .subjects) (t .counts .objects) (t .counts .roles) 
 unfoldable pub closing : ℕ → Frame
 closing n = End (n / 256) (n % 256)
 
+-- "05 h l | end": all lines of a content
 unfoldable pub framesIn : Sheet → List Frame
 framesIn t = opened t ++ (closing (length (opened t)) ∷ [])
 

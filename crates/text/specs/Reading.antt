@@ -16,6 +16,7 @@ pub data Read : Type 0 where
   refused : ℕ → ℕ → Read
   accepted : Sheet → Read
 
+-- the sheet counts only where no line is refused
 unfoldable pub readBy : Verdict → Sheet → Read
 readBy (Refused n line) t = refused n line
 readBy Accepted t = accepted t

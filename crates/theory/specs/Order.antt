@@ -38,6 +38,7 @@ pub record ClassName (n : ℕ) (R : ℕ → ℕ → Type 0) (x name : ℕ) : Typ
   pub member : Equivalent R x name
   pub smallest : (z : ℕ) → z < n → Equivalent R x z → name ≤ z
 
+-- how two entities compare
 pub data Order : Type 0 where
   equal : Order
   below : Order

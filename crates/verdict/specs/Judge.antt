@@ -24,9 +24,11 @@ pub record FirstBroken (ch : ℕ → ℕ → Type 0) (count : ℕ) (separations 
   pub broken : Broken ch separations i
   pub before : (j : ℕ) → j < i → Broken ch separations j → ⊥
 
+-- none is broken
 abbrev pub AllHold : (ℕ → ℕ → Type 0) → ℕ → List ℕ → Type 0
 AllHold ch count separations = (j : ℕ) → j < count → Broken ch separations j → ⊥
 
+-- answer, position and chain count
 abbrev pub judged : ℕ → ℕ → ℕ → Judged
 judged n position count = record { answer = n; position = position; count = count }
 
