@@ -1,2 +1,3 @@
 -- What a sheet permits, and its channels.
 pub mod Channel
+pub mod Inner

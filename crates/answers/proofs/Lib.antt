@@ -8,4 +8,9 @@ pub mod Accepted
 pub mod Sounds
 pub mod Keys
 pub mod Parts
+pub mod Tables
+pub mod FilledBytes
+pub mod Written
+pub mod Tabled
+pub mod Separated
 pub mod Examples

@@ -1,4 +1,5 @@
 -- Laws of one change.
 pub mod Changes
+pub mod Placed
 pub mod Determined
 pub mod Example

@@ -1,2 +1,3 @@
 -- One change at a time.
 pub mod Change
+pub mod Inner

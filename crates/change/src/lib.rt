@@ -1,1 +1,85 @@
 // One change at a time: one assignment byte or one permission byte.
+ghost use mathlib.Core.Path.{_≡_};
+ghost use Prim.Native.Nat.{_+_, _*_, _<_};
+ghost use lib.ListN.{length, set};
+ghost use Rattle.answers.specs.Call.{firstRefusal};
+ghost use Rattle.answers.specs.Sheet.{counts, lent};
+ghost use Rattle.change.specs.Change.{SetsAssignment, SetsPermission};
+ghost use Rattle.change.specs.Inner.{rangeRefusals};
+
+// 6 of a byte to be set in row `i` at place `j` of a table, 0 for none.
+fn range_refusal(rows: usize, columns: usize, most: u8, i: usize, j: usize, value: u8) -> u8
+    ensures { λ res. ⌜ res ≡ firstRefusal (rangeRefusals rows columns most i j value) ⌝ }
+{
+    if rows <= i {
+        return 6;
+    }
+    if columns <= j {
+        return 6;
+    }
+    if value > most {
+        return 6;
+    }
+    0
+}
+
+// Sets the byte in row `i` at place `j` of a table whose rows have `n` bytes.
+fn put(bytes: &mut [u8], n: usize, i: usize, j: usize, value: u8)
+    requires { ⌜ i * n + j < length (now bytes) ⌝ }
+    ensures { λ _. ⌜ now (bytes .exit) ≡ set (now (bytes .entry)) (i * n + j) value ⌝ }
+{
+    let place = i * n + j;
+    bytes[place] = value;
+}
+
+// Sets whether subject `s` has role `r`. Refuses with 1, 5, 11 and 6, in this order, and then changes nothing.
+pub fn set_assignment(
+    subjects: usize,
+    objects: usize,
+    roles: usize,
+    assignment: &mut [u8],
+    permission: &[u8],
+    s: usize,
+    r: usize,
+    value: u8,
+) -> u8
+    ensures { λ res. ⌜ SetsAssignment (lent (counts subjects objects roles) (now (assignment .entry)) (now (permission .entry))) s r value (res, now (assignment .exit)) ⌝ }
+{
+    let counts = answers::Counts { subjects: subjects, objects: objects, roles: roles };
+    let refusal = answers::sheet_refusal(false, false, counts, assignment, permission);
+    if refusal != 0 {
+        return refusal;
+    }
+    let outside = range_refusal(subjects, roles, 1, s, r, value);
+    if outside != 0 {
+        return outside;
+    }
+    put(assignment, roles, s, r, value);
+    0
+}
+
+// Sets the mode that role `r` has on object `o`; 0 takes it away. Refuses as `set_assignment` does.
+pub fn set_permission(
+    subjects: usize,
+    objects: usize,
+    roles: usize,
+    assignment: &[u8],
+    permission: &mut [u8],
+    r: usize,
+    o: usize,
+    mode: u8,
+) -> u8
+    ensures { λ res. ⌜ SetsPermission (lent (counts subjects objects roles) (now (assignment .entry)) (now (permission .entry))) r o mode (res, now (permission .exit)) ⌝ }
+{
+    let counts = answers::Counts { subjects: subjects, objects: objects, roles: roles };
+    let refusal = answers::sheet_refusal(false, false, counts, assignment, permission);
+    if refusal != 0 {
+        return refusal;
+    }
+    let outside = range_refusal(roles, objects, 3, r, o, mode);
+    if outside != 0 {
+        return outside;
+    }
+    put(permission, objects, r, o, mode);
+    0
+}

@@ -1,3 +1,4 @@
 -- Digits, bytes as digits, and the lines of a text. Read in this order.
 pub mod Digit
 pub mod Line
+pub mod Inner

@@ -4,3 +4,6 @@ pub mod Accepts
 pub mod ReadDone
 pub mod Calls
 pub mod Instances
+pub mod ReadReturns
+pub mod Wrote
+pub mod Placed

@@ -54,3 +54,8 @@ Reads text assignment permission separations =
     Outcome (readRefusals assignment permission separations)
     (λ n. notRead assignment permission separations n 0)
     (λ result. result ≡ readResult assignment permission separations (readText text))
+
+-- an answer, with the lent buffers after the call
+abbrev pub readTo : Reading → List ℕ → List ℕ → List ℕ → ReadResult
+readTo reading assignment permission separations =
+    record { reading = reading; assignment = assignment; permission = permission; separations = separations }

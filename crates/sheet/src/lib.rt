@@ -1,4 +1,11 @@
 // Reading and writing the text of a sheet.
+ghost use mathlib.Core.Path.{_≡_};
+ghost use Rattle.answers.specs.Call.{told};
+ghost use Rattle.answers.specs.Sheet.{lent};
+ghost use Rattle.sheet.specs.Read.{readTo, Reads};
+ghost use Rattle.sheet.specs.Write.{Writes};
+ghost use Rattle.sheet.specs.RefusedLine.{RefusedLine};
+ghost use Rattle.sheet.specs.Inner.{refusedBy, acceptedWith, anyShort};
 
 // What reading answers: the number and the line of a refusal, or the counts of an accepted sheet.
 pub struct Reading {
@@ -6,4 +13,125 @@ pub struct Reading {
     pub line: usize,
     pub counts: answers::Counts,
     pub separations: usize,
+}
+
+fn refused_reading(answer: u8, line: usize) -> Reading
+    ensures { λ r. ⌜ r ≡ refusedBy answer line ⌝ }
+{
+    Reading {
+        answer,
+        line,
+        counts: answers::Counts {
+            subjects: 0,
+            objects: 0,
+            roles: 0,
+        },
+        separations: 0,
+    }
+}
+
+fn accepted_reading(k: frames::Passed) -> Reading
+    ensures { λ r. ⌜ r ≡ acceptedWith k ⌝ }
+{
+    let counts = k.counts;
+    Reading {
+        answer: 0,
+        line: 0,
+        counts,
+        separations: k.separations,
+    }
+}
+
+// Whether one of the three tables is shorter than its least length.
+fn some_short(assignment: usize, permission: usize, separations: usize) -> bool
+    ensures { λ r. ⌜ r ≡ anyShort assignment permission separations ⌝ }
+{
+    if assignment < 2304 {
+        return true;
+    }
+    if permission < 3072 {
+        return true;
+    }
+    separations < 128
+}
+
+// Reads a sheet into the lent tables. The whole text is checked before a table is written, so a refusal changes none.
+pub fn read(
+    text: &[u8],
+    assignment: &mut [u8],
+    permission: &mut [u8],
+    separations: &mut [u8],
+) -> Reading
+    ensures { λ r. ⌜ Reads (now (text .entry)) (now (assignment .entry)) (now (permission .entry)) (now (separations .entry)) (readTo r (now (assignment .exit)) (now (permission .exit)) (now (separations .exit))) ⌝ }
+{
+    if some_short(assignment.len(), permission.len(), separations.len()) {
+        return refused_reading(1, 0);
+    }
+    if 44240 < text.len() {
+        return refused_reading(5, 0);
+    }
+    let checked = frames::check_text(text);
+    let verdict = checked.verdict;
+    match verdict {
+        frames::Verdict::Refused(n, line) => refused_reading(n, line),
+        frames::Verdict::Accepted => {
+            reader::fill(text, assignment, permission, separations);
+            let passed = checked.passed;
+            accepted_reading(passed)
+        }
+    }
+}
+
+// ---- writing, and the refused line
+
+const LEAST_SEPARATIONS: usize = 128;
+
+const LEAST_TEXT: usize = 44240;
+
+// A refusal, with nothing to tell.
+fn refused(answer: u8) -> answers::Told
+    ensures { λ r. ⌜ r ≡ told answer 0 ⌝ }
+{
+    answers::Told { answer, value: 0 }
+}
+
+// Writes the one text of the sheet in the tables at the start of `text`: the answer, and the text's length.
+pub fn write(
+    counts: answers::Counts,
+    assignment: &[u8],
+    permission: &[u8],
+    count: usize,
+    separations: &[u8],
+    text: &mut [u8],
+) -> answers::Told
+    ensures { λ r. ⌜ Writes (lent counts (now (assignment .entry)) (now (permission .entry))) count (now (separations .entry)) (now (text .entry)) (r, now (text .exit)) ⌝ }
+{
+    let short = answers::either(
+        separations.len() < LEAST_SEPARATIONS,
+        text.len() < LEAST_TEXT,
+    );
+    let shared = answers::sheet_refusal(short, false, counts, assignment, permission);
+    if shared != 0 {
+        return refused(shared);
+    }
+    let entities = counts.subjects + counts.objects;
+    let own = answers::separation_refusal(entities, count, separations);
+    if own != 0 {
+        return refused(own);
+    }
+    let size = scribe::write_tables(counts, assignment, permission, count, separations, text);
+    answers::Told {
+        answer: 0,
+        value: size,
+    }
+}
+
+// The line of a number, counted from 1, without its line feed: a part of the caller's own text. An unfinished last line counts.
+// Where there is no such line it is the empty part at the text's end.
+pub fn refused_line(text: &[u8], line: usize) -> &[u8]
+    ensures { λ r. ⌜ RefusedLine (text .entry) line r ⌝ }
+{
+    let start = digits::line_start(text, line);
+    let end = digits::line_end(text, line);
+    &text[start..end]
 }

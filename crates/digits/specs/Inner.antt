@@ -1,0 +1,32 @@
+-- What functions that read a text tell each other. No promise: it only ties functions together.
+use Prim.Native.Nat.{ℕ, _+_, _*_, _≤_, _<_}
+use mathlib.Core.Path.{_≡_}
+use mathlib.Core.Logic.{_≢_}
+use mathlib.Core.Bool.{true, cond}
+use mathlib.Core.List.{List}
+use lib.ListN.{length, getD}
+use Rattle.digits.specs.declared.Digit.{Digit}
+use Rattle.digits.specs.declared.Digit.the-variants.{Value, NotDigit}
+use Rattle.digits.specs.Digit.{isDigit, digitValue}
+use Rattle.digits.specs.Line.{feed}
+
+-- a byte of the text, read as a digit
+unfoldable pub digitOf : ℕ → Digit
+digitOf b = cond (isDigit b) (Value (digitValue b)) NotDigit
+
+-- two digits stand at i
+pub record DigitsAt (line : List ℕ) (i : ℕ) : Type 0 where
+  pub within : i + 1 < length line
+  pub high : isDigit (getD line i 0) ≡ true
+  pub low : isDigit (getD line (i + 1) 0) ≡ true
+
+-- the byte that they stand for
+unfoldable pub byteAt : List ℕ → ℕ → ℕ
+byteAt line i = digitValue (getD line i 0) * 16 + digitValue (getD line (i + 1) 0)
+
+-- the line that starts at p ends at e: before the first line feed from there, or at the text's end
+pub record EndsAt (text : List ℕ) (p e : ℕ) : Type 0 where
+  pub after : p ≤ e
+  pub within : e ≤ length text
+  pub none : (i : ℕ) → p ≤ i → i < e → getD text i 0 ≢ feed
+  pub fed : e < length text → getD text e 0 ≡ feed

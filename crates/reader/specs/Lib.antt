@@ -1,0 +1,3 @@
+-- What filling the tables does. Read in this order.
+pub mod Fill
+pub mod Inner

@@ -1,0 +1,4 @@
+-- Laws for the proofs of functions.
+pub mod PutLaws
+pub mod TableLaws
+pub mod SheetLaws

@@ -1,0 +1,44 @@
+-- `scribe::put_three` meets its contract: three bytes and a line feed are set.
+use borrow.Author.Needs.{needs}
+use native.Mathlib.Omega.{arith}
+use native.Mathlib.Numerals.{towards-suc}
+use mathlib.Core.Path.{refl}
+use lib.ListN.{length-set}
+use Rattle.digits.specs.Digit.{toDigits}
+use Rattle.digits.specs.Line.{lineOf}
+use Rattle.scribe.proofs.put_three.Statement.{statement}
+use Rattle.scribe.proofs.put_three.Tie as tie
+
+put-byte-requires : tie.Need-put-byte-requires
+put-byte-requires c κs = search needs
+
+add-put-byte : tie.Need-add-put-byte
+add-put-byte c = search needs
+
+put-byte-requires-2 : tie.Need-put-byte-requires-2
+put-byte-requires-2 c κs = search needs
+
+add-put-byte-2 : tie.Need-add-put-byte-2
+add-put-byte-2 c = search needs
+
+put-byte-requires-3 : tie.Need-put-byte-requires-3
+put-byte-requires-3 c κs = search needs
+
+add-text : tie.Need-add-text
+add-text c = search needs
+
+slice-write-text : tie.Need-slice-write-text
+slice-write-text c = search needs
+
+add-result : tie.Need-add-result
+add-result c = search needs
+
+same-length : tie.Need-same-length
+same-length c = simp length-set (omega arith)
+
+returns : tie.Need-returns
+unfolding toDigits lineOf
+returns c = record { place = refl; text = rw (c .before .before .put-byte3 .ensures, c .before .before .before .before .before .before .put-byte2 .ensures, c .before .before .before .before .before .before .before .before .before .before .put-byte .ensures) (simp towards-suc) }
+
+pub put-three-spec : {M : Type 1} → statement M
+put-three-spec = tie.close (tie.spec put-byte-requires add-put-byte put-byte-requires-2 add-put-byte-2 put-byte-requires-3 add-text slice-write-text add-result same-length returns)

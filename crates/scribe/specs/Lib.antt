@@ -1,0 +1,2 @@
+-- What the functions that write lines rely on.
+pub mod Put
