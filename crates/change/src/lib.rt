@@ -45,7 +45,11 @@ pub fn set_assignment(
 ) -> u8
     ensures { λ res. ⌜ SetsAssignment (lent (counts subjects objects roles) (now (assignment .entry)) (now (permission .entry))) s r value (res, now (assignment .exit)) ⌝ }
 {
-    let counts = answers::Counts { subjects: subjects, objects: objects, roles: roles };
+    let counts = answers::Counts {
+        subjects: subjects,
+        objects: objects,
+        roles: roles,
+    };
     let refusal = answers::sheet_refusal(false, false, counts, assignment, permission);
     if refusal != 0 {
         return refusal;
@@ -71,7 +75,11 @@ pub fn set_permission(
 ) -> u8
     ensures { λ res. ⌜ SetsPermission (lent (counts subjects objects roles) (now (assignment .entry)) (now (permission .entry))) r o mode (res, now (permission .exit)) ⌝ }
 {
-    let counts = answers::Counts { subjects: subjects, objects: objects, roles: roles };
+    let counts = answers::Counts {
+        subjects: subjects,
+        objects: objects,
+        roles: roles,
+    };
     let refusal = answers::sheet_refusal(false, false, counts, assignment, permission);
     if refusal != 0 {
         return refusal;
