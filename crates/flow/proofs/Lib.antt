@@ -1,4 +1,9 @@
 -- Laws of the flow table and of the questions on one.
 pub mod Filled
+pub mod Judged
+pub mod Refusing
+pub mod Answering
+pub mod Outcomes
+pub mod Chosen
 pub mod Determined
 pub mod Examples

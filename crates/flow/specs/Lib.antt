@@ -5,3 +5,4 @@ pub mod Questions
 pub mod Compare
 pub mod Effects
 pub mod ChosenRow
+pub mod Inner

@@ -1,0 +1,141 @@
+-- What the answers rest on, return by return: each follows from the marks of a table's bytes.
+use Prim.Native.Nat.{ℕ, _+_, _*_, _≤_, _<_}
+use mathlib.Core.Path.{_≡_, refl, sym, subst, _∙_}
+use mathlib.Core.List.{List}
+use native.Mathlib.Decide.{ℕ-discrete, decLt}
+use native.Mathlib.Nat.{le-refl}
+use native.Mathlib.Omega.{arith}
+use Rattle.answers.specs.Rows.{at, Mark, one, none, Bytes}
+use Rattle.answers.proofs.Marks.{mark-agrees, marked-yes, marked-no, mark-of, mark-bit}
+use Rattle.theory.specs.Order.{Equivalent, ClassName, equal, below, above, incomparable, both, only-there, only-back, neither, GreatestSecrecy, GreatestIntegrity, Greatest}
+use Rattle.theory.specs.Effect.{Gained, Effect}
+use Rattle.flow.specs.declared.Compared.the-variants.{Equal, Below, Above, Incomparable}
+use Rattle.flow.specs.Compare.{comparison, Stands}
+use Rattle.flow.specs.Inner.{Accepted, Asked, Leaves, BothTables, NewFlow}
+use Rattle.flow.proofs.Judged.{byte-marks}
+
+-- ---- marks that are tested
+pub marked-unless : {P : Type 0} {b : ℕ} → Mark P b → (b ≡ 1 → ⊥) → P → ⊥
+marked-unless m other p = other (mark-of m p)
+
+pub marked-other : {P : Type 0} {b : ℕ} → Mark P b → (b ≡ 0 → ⊥) → P
+marked-other (one e p) other = p
+marked-other (none e p) other = absurd (other e)
+
+-- ---- a search that goes up: none of the numbers passed has P
+pub record NoneBelow (n : ℕ) (P : ℕ → Type 0) : Type 0 where
+  pub none-has : (k : ℕ) → k < n → P k → ⊥
+
+pub none-yet : (P : ℕ → Type 0) → NoneBelow 0 P
+none-yet P = record { none-has = λ k h p. omega arith }
+
+pub none-more : (P : ℕ → Type 0) (k b : ℕ) → NoneBelow k P → Mark (P k) b → (b ≡ 1 → ⊥) → NoneBelow (k + 1) P
+none-more P k b before m other = record { none-has = λ i h p. go i h p (ℕ-discrete i k) }
+  where
+    go : (i : ℕ) → i < k + 1 → P i → Dec (i ≡ k) → ⊥
+    go i h p (yes e) = marked-unless m other (subst P e p)
+    go i h p (no e) = before .none-has i (omega arith) p
+
+module _ (n : ℕ) (table : List ℕ) (x y : ℕ) where
+  -- ---- order
+  module _ (there back : ℕ) (p : Mark (Bytes n table x y) there) (q : Mark (Bytes n table y x) back) where
+    pub stand-equal : there ≡ 1 → back ≡ 1 → Stands n table x y (comparison Equal)
+    unfolding comparison
+    stand-equal e f = record { order = equal; compares = both (marked-yes p e) (marked-yes q f); told = refl }
+
+    pub stand-below : there ≡ 1 → (back ≡ 1 → ⊥) → Stands n table x y (comparison Below)
+    unfolding comparison
+    stand-below e f = record { order = below; compares = only-there (marked-yes p e) (marked-unless q f); told = refl }
+
+    pub stand-above : (there ≡ 1 → ⊥) → back ≡ 1 → Stands n table x y (comparison Above)
+    unfolding comparison
+    stand-above e f = record { order = above; compares = only-back (marked-unless p e) (marked-yes q f); told = refl }
+
+    pub stand-apart : (there ≡ 1 → ⊥) → (back ≡ 1 → ⊥) → Stands n table x y (comparison Incomparable)
+    unfolding comparison
+    stand-apart e f = record { order = incomparable; compares = neither (marked-unless p e) (marked-unless q f); told = refl }
+
+    -- ---- class
+    pub there-and-back : (there ≡ 0 → ⊥) → Mark (Equivalent (Bytes n table) x y) back
+    there-and-back e = mark-agrees (λ b. record { there = marked-other p e; back = b }) (λ r. r .back) q
+
+  pub not-there : (there : ℕ) → Mark (Bytes n table x y) there → there ≡ 0 → Mark (Equivalent (Bytes n table) x y) 0
+  not-there there p e = none refl (λ r. marked-no p e (r .there))
+
+  -- ---- another entity
+  pub leaves-nothing : x ≡ y → Mark (Leaves n table x y) 0
+  leaves-nothing e = none refl (λ l. l .other e)
+
+  pub leaves-if : (x ≡ y → ⊥) → (b : ℕ) → Mark (Bytes n table x y) b → Mark (Leaves n table x y) b
+  leaves-if ne b = mark-agrees (λ f. record { flows = f; other = ne }) (λ l. l .flows)
+
+  only-itself : (Leaves n table x y → ⊥) → Bytes n table x y → x ≡ y
+  only-itself never f = go (ℕ-discrete x y)
+    where
+      go : Dec (x ≡ y) → x ≡ y
+      go (yes e) = e
+      go (no ne) = absurd (never (record { flows = f; other = ne }))
+
+module _ (n : ℕ) (table : List ℕ) (x : ℕ) (a : Asked n table x x) where
+  -- ---- class: the first that is equivalent, and x itself where none below it is
+  pub named-below : (z : ℕ) → z < x → NoneBelow z (Equivalent (Bytes n table) x) → (b : ℕ) → Mark (Equivalent (Bytes n table) x z) b → b ≡ 1 →
+      ClassName n (Bytes n table) x z
+  named-below z h before b m e = record { below = omega (arith, a .source); member = marked-yes m e; smallest = smallest }
+    where
+      smallest : (k : ℕ) → k < n → Equivalent (Bytes n table) x k → z ≤ k
+      smallest k hk q = go (decLt k z)
+        where
+          go : Dec (k < z) → z ≤ k
+          go (yes l) = absurd (before .none-has k l q)
+          go (no l) = omega arith
+
+  itself : Bytes n table x x
+  itself = marked-other (byte-marks n table x x a) (a .accepted .diagonal x (a .source))
+
+  pub named-itself : (z : ℕ) → x ≤ z → NoneBelow z (Equivalent (Bytes n table) x) → ClassName n (Bytes n table) x x
+  named-itself z h before = record { below = a .source; member = record { there = itself; back = itself }; smallest = smallest }
+    where
+      smallest : (k : ℕ) → k < n → Equivalent (Bytes n table) x k → x ≤ k
+      smallest k hk q = go (decLt k x)
+        where
+          go : Dec (k < x) → x ≤ k
+          go (yes l) = absurd (before .none-has k (omega arith) q)
+          go (no l) = omega arith
+
+-- ---- greatest secrecy and integrity
+module _ (n : ℕ) (table : List ℕ) (x y : ℕ) where
+  pub not-secret : y < n → (b : ℕ) → Mark (Leaves n table x y) b → b ≡ 1 → Mark (GreatestSecrecy n (Bytes n table) x) 0
+  not-secret h b m e = let l = marked-yes m e in none refl (λ g. l .other (sym (g y h (l .flows))))
+
+  pub secret : n ≤ y → NoneBelow y (Leaves n table x) → Mark (GreatestSecrecy n (Bytes n table) x) 1
+  secret h before = one refl (λ z hz f. sym (only-itself n table x z (before .none-has z (omega arith)) f))
+
+  pub not-integral : y < n → (b : ℕ) → Mark (Leaves n table y x) b → b ≡ 1 → Mark (GreatestIntegrity n (Bytes n table) x) 0
+  not-integral h b m e = let l = marked-yes m e in none refl (λ g. l .other (g y h (l .flows)))
+
+  pub integral : n ≤ y → NoneBelow y (λ z. Leaves n table z x) → Mark (GreatestIntegrity n (Bytes n table) x) 1
+  integral h before = one refl (λ z hz f. only-itself n table z x (before .none-has z (omega arith)) f)
+
+pub flagged : (n : ℕ) (table : List ℕ) (x s i : ℕ) → Mark (GreatestSecrecy n (Bytes n table) x) s → Mark (GreatestIntegrity n (Bytes n table) x) i →
+    Greatest n (Bytes n table) x (s + 2 * i)
+flagged n table x s i p q = record { secrecy = s; integrity = i; secret = p; integral = q; summed = refl }
+
+-- ---- effect
+module _ (n : ℕ) (before after : List ℕ) (x y : ℕ) where
+  pub not-new : (b : ℕ) → Mark (Bytes n before x y) b → b ≡ 1 → Mark (NewFlow n before after x y) 0
+  not-new b m e = none refl (λ f. f .lacked (marked-yes m e))
+
+  pub new-if : (b : ℕ) → Mark (Bytes n before x y) b → (b ≡ 1 → ⊥) → (d : ℕ) → Mark (Bytes n after x y) d → Mark (NewFlow n before after x y) d
+  new-if b m e d = mark-agrees (λ f. record { lacked = marked-unless m e; has = f }) (λ f. f .has)
+
+  pub has-gained : y < n → (b : ℕ) → Mark (NewFlow n before after y x) b → b ≡ 1 → Mark (Gained n (Bytes n before) (Bytes n after) x) 1
+  has-gained h b m e =
+      let f = marked-yes m e in
+      one refl (record { entity = y; below = h; lacked = f .lacked; has = f .has })
+
+  pub not-gained : n ≤ y → NoneBelow y (λ z. NewFlow n before after z x) → Mark (Gained n (Bytes n before) (Bytes n after) x) 0
+  not-gained h none-new = none refl (λ g. none-new .none-has (g .entity) (omega (arith, g .below)) (record { lacked = g .lacked; has = g .has }))
+
+pub affected : (n : ℕ) (before after : List ℕ) (x g l : ℕ) → Mark (Gained n (Bytes n before) (Bytes n after) x) g →
+    Mark (Gained n (Bytes n after) (Bytes n before) x) l → Effect n (Bytes n before) (Bytes n after) x (g + 2 * l)
+affected n before after x g l p q = record { gain = g; loss = l; gained = p; lost = q; summed = refl }
