@@ -5,5 +5,6 @@ pub mod Refusing
 pub mod Answering
 pub mod Outcomes
 pub mod Chosen
+pub mod Closing
 pub mod Determined
 pub mod Examples

@@ -4,6 +4,9 @@ ghost use Rattle.answers.specs.Call.{firstRefusal, _then_, told};
 ghost use Rattle.answers.specs.Rows.{Mark, Bytes};
 ghost use Rattle.theory.specs.Order.{Equivalent, ClassName, GreatestSecrecy, GreatestIntegrity, Greatest};
 ghost use Rattle.theory.specs.Effect.{Gained, Effect};
+ghost use Rattle.answers.specs.Sheet.{lent, counts, sheetIn};
+ghost use Rattle.access.specs.Inner.{Fillable};
+ghost use Rattle.flow.specs.Fill.{Filled, Fills};
 ghost use Rattle.flow.specs.Table.{byteRefusals, flowRefusals, entityRefusals};
 ghost use Rattle.flow.specs.Questions.{bothAskedRefusals, Flows, Labelled, Labels, Names, Flags};
 ghost use Rattle.flow.specs.Compare.{comparison, Stands, ComparesTo};
@@ -103,6 +106,58 @@ fn both_asked_refusal(n: usize, table: &[u8], x: usize, y: usize) -> u8
     if n <= y {
         return 10;
     }
+    0
+}
+
+// ---- the flow table of a sheet
+
+// Writes the flow table of a sheet whose tables were not refused. No lent buffer serves as scratch: the channels stand in a local table.
+fn close_channels(
+    subjects: usize,
+    objects: usize,
+    roles: usize,
+    assignment: &[u8],
+    permission: &[u8],
+    flow: &mut [u8],
+)
+    requires { ⌜ Fillable (lent (counts subjects objects roles) (now assignment) (now permission)) (now flow) ⌝ }
+    ensures { λ _. ⌜ Filled (sheetIn (lent (counts subjects objects roles) (now (assignment .entry)) (now (permission .entry)))) (now (flow .entry)) (0, now (flow .exit)) ⌝ }
+{
+    let n = subjects + objects;
+    let mut channels = [0u8; 12544];
+    access::fill_channels(
+        subjects,
+        objects,
+        roles,
+        assignment,
+        permission,
+        &mut channels,
+    );
+    graph::fill_rows(&channels, n, flow);
+}
+
+// Writes the flow table of a sheet: the byte at x * N + y is 1 if x flows to y, and 0 if not. Refuses with 1, 5 and 11, in this order,
+// and then changes nothing.
+pub fn fill(
+    subjects: usize,
+    objects: usize,
+    roles: usize,
+    assignment: &[u8],
+    permission: &[u8],
+    flow: &mut [u8],
+) -> u8
+    ensures { λ r. ⌜ Fills (lent (counts subjects objects roles) (now (assignment .entry)) (now (permission .entry))) (now (flow .entry)) (r, now (flow .exit)) ⌝ }
+{
+    let c = answers::Counts {
+        subjects,
+        objects,
+        roles,
+    };
+    let refusal = answers::sheet_refusal(flow.len() < LEAST_FLOW, false, c, assignment, permission);
+    if refusal != 0 {
+        return refusal;
+    }
+    close_channels(subjects, objects, roles, assignment, permission, flow);
     0
 }
 
