@@ -3,10 +3,10 @@ use Prim.Native.Nat.{ℕ, _+_, _*_, _≤_, _<_}
 use mathlib.Core.Path.{_≡_, _∙_}
 use mathlib.Core.List.{List}
 use native.Mathlib.Omega.{arith}
-use lib.ListN.{length, take}
+use lib.ListN.{length, take, drop, length-append}
 use lib.Seq.{getD-take}
-use Rattle.answers.specs.Sizes.{mostSubjects, mostRoles}
-use Rattle.answers.specs.Rows.{at}
+use Rattle.answers.specs.Sizes.{mostSubjects, mostRoles, mostEntities}
+use Rattle.answers.specs.Rows.{at, over}
 use Rattle.answers.specs.Sheet.{Lent, entities, sheetOf, sheetIn}
 use Rattle.answers.specs.Inner.{Sized}
 use Rattle.answers.proofs.Marks.{mark-agrees}
@@ -78,3 +78,11 @@ filled-agrees to back f =
       marked = record { size = f .marked .size; bytes = λ x y h l. mark-agrees (to x y) (back x y) (f .marked .bytes x y h l) };
       written = f .written;
     }
+
+-- ---- for those who lend the table on
+pub entities-fit : (l : Lent) → Sized l → entities (l .counts) ≤ mostEntities
+entities-fit l s = omega (arith, s .subjects, s .objects)
+
+pub filled-room : {n : ℕ} {R : ℕ → ℕ → Type 0} {before after : List ℕ} → Filled n R before after → n * n ≤ length after
+unfolding over
+filled-room {before = before} f = rw (f .written) (omega (arith, length-append (f .table) (drop (length (f .table)) before), f .marked .size))

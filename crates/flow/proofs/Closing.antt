@@ -1,18 +1,16 @@
 -- The rows that close the channel table of a sheet are its flow table.
-use Prim.Native.Nat.{ℕ, _+_, _*_, _≤_}
+use Prim.Native.Nat.{ℕ, _*_, _≤_}
 use mathlib.Core.Path.{_≡_, refl, ap}
 use mathlib.Core.Logic.{_≢_}
 use mathlib.Core.Bool.{false}
 use mathlib.Core.List.{List}
-use native.Mathlib.Omega.{arith}
 use borrow.Author.Tests.{ltb-false}
-use lib.ListN.{length, drop, length-append}
+use lib.ListN.{length}
 use Rattle.answers.specs.Call.{firstRefusal}
-use Rattle.answers.specs.Rows.{Bytes, over, shorter}
-use Rattle.answers.specs.Sizes.{mostEntities, leastFlow}
+use Rattle.answers.specs.Rows.{Bytes, shorter}
+use Rattle.answers.specs.Sizes.{leastFlow}
 use Rattle.answers.specs.Sheet.{Lent, sheetIn, sheetOf, entities}
 use Rattle.answers.specs.Refusals.{sheetRefusals}
-use Rattle.answers.specs.Inner.{Sized}
 use Rattle.answers.proofs.Calls.{refuse, accept}
 use Rattle.answers.proofs.Accepted.{tables-passed}
 use Rattle.answers.proofs.Products.{product-within}
@@ -20,7 +18,7 @@ use Rattle.graph.specs.Written.{FlowTable}
 use Rattle.graph.proofs.Relations.{bytes-to, bytes-from, table-agrees}
 use Rattle.access.specs.Channel.{Channel}
 use Rattle.access.specs.Inner.{Filled as ChannelsFilled, Fillable}
-use Rattle.access.proofs.Filling.{sheet-inside}
+use Rattle.access.proofs.Filling.{sheet-inside, entities-fit}
 use Rattle.flow.specs.Fill.{Filled, fillRefusals, Fills}
 
 -- what the engine wrote for the bytes of the channel table holds of the sheet's channels
@@ -31,16 +29,9 @@ closed l scratch channels before after f t =
     let flow = table-agrees (bytes-to (f .marked) scratch (f .written)) (bytes-from (f .marked) scratch (f .written) (sheet-inside l)) t in
     record { table = flow .table; marked = flow .marked; written = ap (λ (x : List ℕ). (0, x)) (flow .written) }
 
--- the entities of a sheet, and a table of them, have their sizes
-pub entities-fit : (l : Lent) → Sized l → entities (l .counts) ≤ mostEntities
-entities-fit l s = omega (arith, s .subjects, s .objects)
-
+-- a table of all entities has room
 pub table-fits : (l : Lent) (buffer : List ℕ) → Fillable l buffer → entities (l .counts) * entities (l .counts) ≤ length buffer
 table-fits l buffer f = product-within _ _ 112 112 _ (entities-fit l (f .sized)) (entities-fit l (f .sized)) (f .room)
-
-pub channels-fit : {n : ℕ} {R : ℕ → ℕ → Type 0} {scratch channels : List ℕ} → ChannelsFilled n R scratch channels → n * n ≤ length channels
-unfolding over
-channels-fit {scratch = scratch} f = rw (f .written) (omega (arith, length-append (f .table) (drop (length (f .table)) scratch), f .marked .size))
 
 -- what was not refused can be filled
 pub fillable : (l : Lent) (flow : List ℕ) → firstRefusal (sheetRefusals (shorter flow leastFlow) false l) ≡ 0 → Fillable l flow

@@ -1,4 +1,5 @@
 -- Laws of the shown chain and of the first broken separation.
 pub mod Verdicts
+pub mod Showing
 pub mod Determined
 pub mod Example

@@ -1,8 +1,8 @@
 -- `flow::close_channels` meets its contract: the rows that close the channel table are the sheet's flow table.
-use native.Mathlib.Omega.{arith}
 use borrow.Author.Needs.{needs}
 use Rattle.answers.specs.Sheet.{Lent, counts, lent}
-use Rattle.flow.proofs.Closing.{closed, entities-fit, table-fits, channels-fit}
+use Rattle.access.proofs.Filling.{entities-fit, filled-room}
+use Rattle.flow.proofs.Closing.{closed, table-fits}
 use Rattle.flow.proofs.close_channels.Statement.{statement}
 use Rattle.flow.proofs.close_channels.Tie as tie
 
@@ -26,7 +26,7 @@ fill-rows-requires : tie.Need-fill-rows-requires
 fill-rows-requires c κs =
     let e = c .before .before .before .before .before .before .before .before in
     let fits = table-fits (of e) _ (e .pre) in
-    (entities-fit (of e) (e .pre .sized), channels-fit (c .before .before .before .fill-channels .ensures), fits)
+    (entities-fit (of e) (e .pre .sized), filled-room (c .before .before .before .fill-channels .ensures), fits)
 
 same-length : tie.Need-same-length
 same-length c = search needs

@@ -1,5 +1,4 @@
 -- `scribe::put_four` meets its contract: four bytes and a line feed are set.
-use borrow.Author.Needs.{needs}
 use native.Mathlib.Omega.{arith}
 use native.Mathlib.Numerals.{towards-suc}
 use mathlib.Core.Path.{refl}
@@ -10,34 +9,34 @@ use Rattle.scribe.proofs.put_four.Statement.{statement}
 use Rattle.scribe.proofs.put_four.Tie as tie
 
 put-byte-requires : tie.Need-put-byte-requires
-put-byte-requires c κs = search needs
+put-byte-requires c κs = omega arith
 
 add-put-byte : tie.Need-add-put-byte
-add-put-byte c = search needs
+add-put-byte c = omega arith
 
 put-byte-requires-2 : tie.Need-put-byte-requires-2
-put-byte-requires-2 c κs = search needs
+put-byte-requires-2 c κs = omega arith
 
 add-put-byte-2 : tie.Need-add-put-byte-2
-add-put-byte-2 c = search needs
+add-put-byte-2 c = omega arith
 
 put-byte-requires-3 : tie.Need-put-byte-requires-3
-put-byte-requires-3 c κs = search needs
+put-byte-requires-3 c κs = omega arith
 
 add-put-byte-3 : tie.Need-add-put-byte-3
-add-put-byte-3 c = search needs
+add-put-byte-3 c = omega arith
 
 put-byte-requires-4 : tie.Need-put-byte-requires-4
-put-byte-requires-4 c κs = search needs
+put-byte-requires-4 c κs = omega arith
 
 add-text : tie.Need-add-text
-add-text c = search needs
+add-text c = omega arith
 
 slice-write-text : tie.Need-slice-write-text
-slice-write-text c = search needs
+slice-write-text c = omega arith
 
 add-result : tie.Need-add-result
-add-result c = search needs
+add-result c = omega arith
 
 same-length : tie.Need-same-length
 same-length c = simp length-set (omega arith)

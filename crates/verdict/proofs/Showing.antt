@@ -1,0 +1,91 @@
+-- The ends of `chain`, return by return.
+use Prim.Native.Nat.{ℕ, _≤_, _<_}
+use mathlib.Core.Path.{_≡_, refl, sym, ap, _∙_}
+use mathlib.Core.Logic.{_≢_}
+use mathlib.Core.Bool.{Bool, false}
+use mathlib.Core.List.{List, [], _∷_}
+use native.Mathlib.Omega.{arith}
+use borrow.Author.Tests.{ltb-false, leb-false, le-leb, lt-leb}
+use lib.Dec.{leb}
+use lib.ListN.{length}
+use mir.Syntax.{w64}
+use mir.Val.{Fits}
+use Rattle.answers.specs.declared.Told.{Told}
+use Rattle.answers.specs.Call.{Refusal, _if_, _then_, firstRefusal, told}
+use Rattle.answers.specs.Rows.{Bytes, shorter}
+use Rattle.answers.specs.Sizes.{leastChain}
+use Rattle.answers.specs.Sheet.{Lent, sheetIn, sheetOf, entities}
+use Rattle.answers.specs.Refusals.{sheetRefusals}
+use Rattle.answers.proofs.Calls.{passed, by-first, by-second, passed-then, refuse, accept}
+use Rattle.answers.proofs.Accepted.{sheet-numbered, tables-passed}
+use Rattle.theory.proofs.Chains.{chain-long}
+use Rattle.graph.specs.Written.{ShownChain, shown as written, missing as none}
+use Rattle.graph.proofs.Relations.{bytes-to, bytes-from, chain-agrees}
+use Rattle.access.specs.Channel.{Channel}
+use Rattle.access.specs.Inner.{Filled}
+use Rattle.access.proofs.Filling.{sheet-inside}
+use Rattle.verdict.specs.Shown.{Shown, shown, missing, chainRefusals, Shows}
+use Rattle.verdict.specs.Inner.{Showable}
+
+-- the sum of both counts does not wrap once 5 has passed
+pub sum-fits : (short : Bool) (l : Lent) → firstRefusal (sheetRefusals short false l) ≡ 0 → Fits w64 (entities (l .counts))
+sum-fits short l e = let s = tables-passed short false l e .sized in omega (arith, s .subjects, s .objects)
+
+-- ---- what is refused
+module _ (l : Lent) (x y : ℕ) (chain : List ℕ) where
+  abbrev tables : List Refusal
+  tables = sheetRefusals (shorter chain leastChain) false l
+
+  pub by-tables : (n : ℕ) → n ≡ firstRefusal tables → n ≢ 0 → n ≡ firstRefusal (chainRefusals l x y chain)
+  unfolding chainRefusals
+  by-tables n e some = e ∙ sym (by-first tables _ (λ z. some (e ∙ z)))
+
+  module _ (passes : firstRefusal tables ≡ 0) where
+    by-entities : firstRefusal (chainRefusals l x y chain) ≡ firstRefusal ((10 if leb (entities (l .counts)) x) ∷ (10 if leb (entities (l .counts)) y) ∷ [])
+    unfolding chainRefusals
+    by-entities = by-second tables _ (sheet-numbered _ _ l) passes
+
+    pub first-outside : entities (l .counts) ≤ x → 10 ≡ firstRefusal (chainRefusals l x y chain)
+    unfolding firstRefusal
+    first-outside h = rw (by-entities, le-leb _ _ h)
+
+    pub last-outside : x < entities (l .counts) → entities (l .counts) ≤ y → 10 ≡ firstRefusal (chainRefusals l x y chain)
+    unfolding firstRefusal
+    last-outside h g = rw (by-entities, lt-leb _ _ h, le-leb _ _ g)
+
+    pub none-outside : x < entities (l .counts) → y < entities (l .counts) → 0 ≡ firstRefusal (chainRefusals l x y chain)
+    unfolding firstRefusal
+    none-outside h g = rw (by-entities, lt-leb _ _ h, lt-leb _ _ g)
+
+  pub showable : firstRefusal (chainRefusals l x y chain) ≡ 0 → Showable l x y chain
+  unfolding chainRefusals
+  showable e =
+      let p = passed-then tables _ (sheet-numbered _ _ l) e in
+      let t = tables-passed _ _ l (p .0) in
+      let a = passed _ _ _ tt (p .1) in
+      let b = passed _ _ _ tt (a .1) in
+      record { sized = t .sized; first = leb-false _ _ (a .0); last = leb-false _ _ (b .0); room = ltb-false _ _ (t .not-short) }
+
+-- ---- what is shown
+pub of-sheet : (l : Lent) (scratch channels before after : List ℕ) (x y count : ℕ) → Filled (entities (l .counts)) (Channel (sheetIn l)) scratch channels →
+    ShownChain (Bytes (entities (l .counts)) channels) x y before after count → ShownChain (Channel (sheetIn l)) x y before after count
+unfolding sheetOf
+of-sheet l scratch channels before after x y count f s =
+    chain-agrees (bytes-to (f .marked) scratch (f .written)) (bytes-from (f .marked) scratch (f .written) (sheet-inside l)) s
+
+module _ {ch : ℕ → ℕ → Type 0} {x y count : ℕ} {before after : List ℕ} where
+  pub shown-some : ShownChain ch x y before after count → count ≢ 0 → Shown ch x y before (told 0 count, after)
+  shown-some (written l b e w) some = shown l b (rw (e, w))
+  shown-some (none no′ e w) some = absurd (some e)
+
+  pub shown-none : ShownChain ch x y before after count → count ≡ 0 → Shown ch x y before (told 13 0, after)
+  shown-none (written l b e w) zero′ = absurd (omega (arith, chain-long (b .chain)))
+  shown-none (none no′ e w) zero′ = missing no′ (rw w)
+
+-- ---- the call
+module _ (l : Lent) (x y : ℕ) (before : List ℕ) where
+  pub chain-refused : (n : ℕ) → n ≡ firstRefusal (chainRefusals l x y before) → n ≢ 0 → Shows l x y before (told n 0, before)
+  chain-refused n e some = refuse n e some refl
+
+  pub chain-done : (result : Told × List ℕ) → firstRefusal (chainRefusals l x y before) ≡ 0 → Shown (Channel (sheetIn l)) x y before result → Shows l x y before result
+  chain-done result e s = accept e s
