@@ -6,7 +6,7 @@ use mathlib.Core.List.{List}
 use Prim.Native.Nat.{ℕ, _+_, _*_, _≤_, _<_}
 use borrow.Author.Tests.{leb-false}
 use lib.ListN.{length, set}
-use Rattle.answers.specs.Call.{firstRefusal, left}
+use Rattle.answers.specs.Call.{firstRefusal}
 use Rattle.answers.specs.Sheet.{Lent}
 use Rattle.answers.specs.Refusals.{sheetRefusals}
 use Rattle.answers.proofs.Calls.{passed, refuse-shared, refuse-own, accept-own}

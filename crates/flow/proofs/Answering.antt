@@ -1,17 +1,16 @@
 -- What the answers rest on, return by return: each follows from the marks of a table's bytes.
 use Prim.Native.Nat.{ℕ, _+_, _*_, _≤_, _<_}
-use mathlib.Core.Path.{_≡_, refl, sym, subst, _∙_}
+use mathlib.Core.Path.{_≡_, refl, sym, subst}
 use mathlib.Core.List.{List}
 use native.Mathlib.Decide.{ℕ-discrete, decLt}
-use native.Mathlib.Nat.{le-refl}
 use native.Mathlib.Omega.{arith}
-use Rattle.answers.specs.Rows.{at, Mark, one, none, Bytes}
-use Rattle.answers.proofs.Marks.{mark-agrees, marked-yes, marked-no, mark-of, mark-bit}
+use Rattle.answers.specs.Rows.{Mark, one, none, Bytes}
+use Rattle.answers.proofs.Marks.{mark-agrees, marked-yes, marked-no, mark-of}
 use Rattle.theory.specs.Order.{Equivalent, ClassName, equal, below, above, incomparable, both, only-there, only-back, neither, GreatestSecrecy, GreatestIntegrity, Greatest}
 use Rattle.theory.specs.Effect.{Gained, Effect}
 use Rattle.flow.specs.declared.Compared.the-variants.{Equal, Below, Above, Incomparable}
 use Rattle.flow.specs.Compare.{comparison, Stands}
-use Rattle.flow.specs.Inner.{Accepted, Asked, Leaves, BothTables, NewFlow}
+use Rattle.flow.specs.Inner.{Asked, Leaves, NewFlow}
 use Rattle.flow.proofs.Judged.{byte-marks}
 
 -- ---- marks that are tested

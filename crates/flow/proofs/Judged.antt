@@ -6,7 +6,7 @@ use mathlib.Core.List.{List}
 use native.Mathlib.Omega.{arith}
 use borrow.Author.Tests.{ltb-false, leb-false, eq-eqb}
 use lib.Dec.{T, eqb}
-use lib.ListN.{length, getD}
+use lib.ListN.{length}
 use Rattle.answers.specs.Call.{firstRefusal, _then_}
 use Rattle.answers.specs.Rows.{at, Mark, one, none, Bytes}
 use Rattle.answers.proofs.Below.{none-of}

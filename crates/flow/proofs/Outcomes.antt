@@ -1,8 +1,8 @@
 -- The ends of the calls that answer more than a number, return by return.
 use Prim.Native.Nat.{ℕ, _+_, _≤_, _<_}
-use mathlib.Core.Path.{_≡_, refl, sym, ap, _∙_}
+use mathlib.Core.Path.{_≡_, refl, sym, _∙_}
 use mathlib.Core.Logic.{_≢_}
-use mathlib.Core.Bool.{Bool, true, false, _||_, cond}
+use mathlib.Core.Bool.{Bool, false, _||_, cond}
 use mathlib.Core.List.{List}
 use native.Mathlib.Nat.{le-antisymm}
 use native.Mathlib.Omega.{arith}
@@ -11,7 +11,7 @@ use lib.Dec.{eqb}
 use lib.ListN.{length, set}
 use Rattle.answers.specs.Call.{firstRefusal, _then_, Outcome, told}
 use Rattle.answers.specs.Sizes.{leastFlow, leastLabel, leastEffect}
-use Rattle.answers.specs.Rows.{Bytes, Mark, one, none, Row, over, count, shorter}
+use Rattle.answers.specs.Rows.{Bytes, Mark, one, none, count, shorter}
 use Rattle.answers.proofs.Calls.{refuse, accept, refuse-shared, refuse-own, accept-own}
 use Rattle.answers.proofs.Tabled.{neither}
 use Rattle.answers.proofs.Written.{Written, written-none, written-more, count-more, count-within}
@@ -105,11 +105,11 @@ module _ (n : ℕ) (before after effect : List ℕ) (short : Bool) (is-short : s
   effect-refused k e some = rw same-list (refuse-shared (flowRefusals short n before) (byteRefusals n after) k e some refl)
 
   module _ (passed : firstRefusal (flowRefusals short n before) ≡ 0) where
-    pub after-sized : Sized n after
-    after-sized =
+    pub both-sized : Sized n before × Sized n after
+    both-sized =
         let p = flow-passed short n before passed in
         let s = neither (shorter after leastFlow) _ (sym is-short ∙ p .0) in
-        record { few = p .1 .sized .few; room = ltb-false _ _ (s .0) }
+        (p .1 .sized, record { few = p .1 .sized .few; room = ltb-false _ _ (s .0) })
 
     pub after-refused : (k : ℕ) → k ≡ firstRefusal (byteRefusals n after) → k ≢ 0 → Affects n before after effect (k, effect)
     after-refused k e some =
@@ -120,7 +120,7 @@ module _ (n : ℕ) (before after effect : List ℕ) (short : Bool) (is-short : s
       affecting =
           let p = flow-passed short n before passed in
           let s = neither (shorter after leastFlow) _ (sym is-short ∙ p .0) in
-          record { in-before = p .1; in-after = bytes-passed n after after-sized sound; effect-room = ltb-false _ _ (s .1) }
+          record { in-before = p .1; in-after = bytes-passed n after (both-sized .1) sound; effect-room = ltb-false _ _ (s .1) }
 
       pub effect-done : (written : List ℕ) → Affected n before after effect (0, written) → Affects n before after effect (0, written)
       effect-done written d =

@@ -1,5 +1,5 @@
 -- `flow::compare` meets its contract: each return by what its callees answered.
-use mathlib.Core.Path.{refl, sym, _∙_}
+use mathlib.Core.Path.{sym, _∙_}
 use borrow.Author.Needs.{needs}
 use Rattle.flow.proofs.Judged.{both-passed}
 use Rattle.flow.proofs.Outcomes.{compare-refused, compare-done}

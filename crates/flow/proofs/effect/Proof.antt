@@ -1,8 +1,9 @@
 -- `flow::effect` meets its contract: each return by what its callees answered.
 use mathlib.Core.Path.{sym, _∙_}
+use native.Mathlib.Omega.{arith}
 use borrow.Author.Needs.{needs}
 use denote.Ref.{now}
-use Rattle.flow.proofs.Outcomes.{effect-refused, after-sized, after-refused, affecting, effect-done}
+use Rattle.flow.proofs.Outcomes.{effect-refused, both-sized, after-refused, affecting, effect-done}
 use Rattle.flow.proofs.effect.Statement.{statement}
 use Rattle.flow.proofs.effect.Tie as tie
 
@@ -17,7 +18,10 @@ returns c = effect-refused _ _ _ _ _ (c .before .before .either .ensures) _ (c .
 
 byte-refusal-requires : tie.Need-byte-refusal-requires
 byte-refusal-requires c κs =
-    after-sized _ _ _ (now (c .before .before .before .before .before .before .args .effect)) _ (c .before .before .either .ensures) (sym (c .before .flow-refusal .ensures) ∙ c .if1 .left)
+    let a = c .before .before .before .before .before .before .args in
+    let s = both-sized (a .n) (now (a .before)) (now (a .after)) (now (a .effect)) _ (c .before .before .either .ensures)
+    (sym (c .before .flow-refusal .ensures) ∙ c .if1 .left) in
+    record { few = omega (arith, s .0); room = omega (arith, s .0 .room, s .1 .room) }
 
 returns-2 : tie.Need-returns-2
 returns-2 c =

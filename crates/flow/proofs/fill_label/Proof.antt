@@ -21,7 +21,7 @@ loop-holds c = (search needs, refl, label-none _ _ _ _)
 flow-byte-requires : tie.Need-flow-byte-requires Inv-loop μ-loop
 flow-byte-requires c κs =
     let a = c .before .before .before .before .pre .asked in
-    record { accepted = a .accepted; source = omega arith; target = a .source }
+    record { accepted = a .accepted; source = omega (arith, a .source); target = omega (arith, a .source) }
 
 slice-write-label : tie.Need-slice-write-label Inv-loop μ-loop
 slice-write-label c = omega (arith, c .before .before .before .before .before .pre .label-room, c .before .before .before .before .before .pre .asked .accepted .sized .few)

@@ -17,7 +17,9 @@ loop-holds : tie.Need-loop-holds Inv-loop μ-loop
 loop-holds c = (search needs, none-yet _)
 
 leaves-requires : tie.Need-leaves-requires Inv-loop μ-loop
-leaves-requires c κs = record { accepted = c .before .before .before .pre .accepted; source = c .before .before .before .pre .source; target = omega arith }
+leaves-requires c κs =
+    let a = c .before .before .before .pre in
+    record { accepted = a .accepted; source = omega (arith, a .source); target = omega (arith, a .source) }
 
 returns : tie.Need-returns Inv-loop μ-loop
 returns c = not-secret _ _ _ _ (omega arith) _ (c .before .leaves .ensures) (c .if1 .taken)
