@@ -11,9 +11,9 @@ use Rattle.access.specs.Channel.{Channel}
 use Rattle.change.specs.Change.{withPermission}
 use Rattle.text.specs.Reading.{accepted, readText}
 use Rattle.text.proofs.Worked.{workedText, worked, reads-worked}
-use Rattle.rehearsal.specs.declared.Act.the-variants.{Moves, OutOfRange, NotPermitted}
-use Rattle.rehearsal.specs.Acts.{verdictBytes, after}
-use Rattle.rehearsal.specs.Transfers.{toSubject, toObject, moves, barred, none, next}
+use Rattle.transfers.specs.declared.Act.the-variants.{Moves, OutOfRange, NotPermitted}
+use Rattle.transfers.specs.Acts.{verdictBytes, after}
+use Rattle.transfers.specs.Transfers.{toSubject, toObject, moves, barred, none, next}
 use Rattle.points.specs.Points.{changed, Points}
 use Rattle.points.proofs.Computed.{chainb}
 use Rattle.points.proofs.ComputedSheet.{channelb, channel-of-test, test-of-channel, sheet-flows, sheet-flows-not, sheet-chain}

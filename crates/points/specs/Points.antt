@@ -8,10 +8,10 @@ use Rattle.theory.specs.Chain.{Best}
 use Rattle.theory.specs.Order.{Label, ClassName, below, Compares}
 use Rattle.access.specs.Channel.{Channel}
 use Rattle.change.specs.Change.{withPermission}
-use Rattle.rehearsal.specs.declared.Act.{Act}
-use Rattle.rehearsal.specs.declared.Transfer.{Transfer}
-use Rattle.rehearsal.specs.Acts.{verdictBytes, after}
-use Rattle.rehearsal.specs.Transfers.{transfer, AllCome}
+use Rattle.transfers.specs.declared.Act.{Act}
+use Rattle.transfers.specs.declared.Transfer.{Transfer}
+use Rattle.transfers.specs.Acts.{verdictBytes, after}
+use Rattle.transfers.specs.Transfers.{transfer, AllCome}
 
 -- the flow of a sheet
 abbrev pub Flows : Sheet → ℕ → ℕ → Type 0

@@ -11,8 +11,8 @@ use Rattle.answers.specs.Sheet.{sheetOf, entities}
 use Rattle.answers.specs.Refusals.{sheetRefusals}
 use Rattle.answers.proofs.Calls.{accept, refuse}
 use Rattle.access.proofs.Channels.{two-sided}
-use Rattle.rehearsal.specs.Demand3.{chainTransfers}
-use Rattle.rehearsal.specs.Rehearse.{
+use Rattle.transfers.specs.Demand3.{chainTransfers}
+use Rattle.transfers.specs.Rehearse.{
   newTally,
   Rehearsed,
   rehearsed,
@@ -22,15 +22,15 @@ use Rattle.rehearsal.specs.Rehearse.{
   recordRefusals,
   RehearsesFlat,
 }
-use Rattle.rehearsal.proofs.Moving.{Marks32}
-use Rattle.rehearsal.proofs.Labels.{chainMoves}
-use Rattle.rehearsal.proofs.TwoRuns.{Starts, TwoLendings}
-use Rattle.rehearsal.proofs.Chains.{chain-comes}
-use Rattle.rehearsal.proofs.Accepted.{Ready}
-use Rattle.rehearsal.proofs.Entries.{records-as-flat}
-use Rattle.rehearsal.proofs.ShownChain.{RehearsesChain, RehearsesChainFlat}
-use Rattle.rehearsal.proofs.Examples.{few}
-use Rattle.rehearsal.proofs.SmallSheet.{sheet, sheet-best}
+use Rattle.transfers.proofs.Moving.{Marks32}
+use Rattle.transfers.proofs.Labels.{chainMoves}
+use Rattle.transfers.proofs.TwoRuns.{Starts, TwoLendings}
+use Rattle.transfers.proofs.Chains.{chain-comes}
+use Rattle.transfers.proofs.Accepted.{Ready}
+use Rattle.transfers.proofs.Entries.{records-as-flat}
+use Rattle.transfers.proofs.ShownChain.{RehearsesChain, RehearsesChainFlat}
+use Rattle.transfers.proofs.Examples.{few}
+use Rattle.transfers.proofs.SmallSheet.{sheet, sheet-best}
 
 unfoldable pub marks : ℕ → ℕ → List ℕ
 marks a b = a ∷ b ∷ replicate 110 0

@@ -4,9 +4,9 @@ use mathlib.Core.Path.{_≡_}
 use mathlib.Core.List.{List, [], _∷_}
 use Rattle.answers.specs.declared.Counts.{Counts}
 use Rattle.answers.specs.Sheet.{objectEntity}
-use Rattle.rehearsal.specs.declared.Act.{Act}
-use Rattle.rehearsal.specs.declared.Act.the-variants.{Moves, OutOfRange, NotPermitted}
-use Rattle.rehearsal.specs.declared.Transfer.{Transfer}
+use Rattle.transfers.specs.declared.Act.{Act}
+use Rattle.transfers.specs.declared.Act.the-variants.{Moves, OutOfRange, NotPermitted}
+use Rattle.transfers.specs.declared.Transfer.{Transfer}
 
 -- "A transfer is subject, object, mode"
 abbrev pub transfer : ℕ → ℕ → ℕ → Transfer

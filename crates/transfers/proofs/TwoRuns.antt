@@ -10,14 +10,14 @@ use Rattle.theory.specs.Flow.{Flow}
 use Rattle.theory.specs.Chain.{Best}
 use Rattle.theory.proofs.Flows.{Inside}
 use Rattle.theory.proofs.Chains.{shortest-distinct}
-use Rattle.rehearsal.specs.declared.Act.{Act}
-use Rattle.rehearsal.specs.declared.Transfer.{Transfer}
-use Rattle.rehearsal.specs.Acts.{after}
-use Rattle.rehearsal.specs.Transfers.{AllCome}
-use Rattle.rehearsal.specs.Demand3.{DifferAt}
-use Rattle.rehearsal.proofs.Moving.{AllMove, come-move, Marks32}
-use Rattle.rehearsal.proofs.Shares.{share, weighed, final-mark, two-runs}
-use Rattle.rehearsal.proofs.Labels.{share-outside, chainMoves, chain-along, share-along}
+use Rattle.transfers.specs.declared.Act.{Act}
+use Rattle.transfers.specs.declared.Transfer.{Transfer}
+use Rattle.transfers.specs.Acts.{after}
+use Rattle.transfers.specs.Transfers.{AllCome}
+use Rattle.transfers.specs.Demand3.{DifferAt}
+use Rattle.transfers.proofs.Moving.{AllMove, come-move, Marks32}
+use Rattle.transfers.proofs.Shares.{share, weighed, final-mark, two-runs}
+use Rattle.transfers.proofs.Labels.{share-outside, chainMoves, chain-along, share-along}
 
 -- two sets of 32-bit starting marks of n entities that differ at entity x only
 pub record Starts (n x : ℕ) (marks marks′ : List ℕ) : Type 0 where

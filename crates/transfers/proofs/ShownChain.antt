@@ -18,17 +18,17 @@ use Rattle.theory.proofs.Chains.{chain-flow, chain-inside, shortest-distinct}
 use Rattle.access.specs.Channel.{Channel}
 use Rattle.access.proofs.Channels.{TwoSided, two-sided, channel-inside}
 use Rattle.access.proofs.Decided.{sheet-chain-exists}
-use Rattle.rehearsal.specs.declared.Tally.{Tally}
-use Rattle.rehearsal.specs.Rehearse.{Rehearsed, notRehearsed, rehearsed, Rehearses, recordRefusals, RehearsesFlat, RehearsesRecords}
-use Rattle.rehearsal.specs.Demand3.{chainTransfers}
-use Rattle.rehearsal.proofs.Determined.{one-list}
-use Rattle.rehearsal.proofs.Labels.{chainMoves}
-use Rattle.rehearsal.proofs.Chains.{chain-transfers-length, chain-comes, chain-verdicts, chain-applied}
-use Rattle.rehearsal.proofs.TwoRuns.{TwoLendings, label-holds}
-use Rattle.rehearsal.proofs.FlatBytes.{flatBytes}
-use Rattle.rehearsal.proofs.Accepted.{Ready, sheet-room, passed-room, records-refused-alike, records-pass}
-use Rattle.rehearsal.proofs.Entries.{flat-as-records}
-use Rattle.rehearsal.proofs.SameAnswers.{list-verdicts}
+use Rattle.transfers.specs.declared.Tally.{Tally}
+use Rattle.transfers.specs.Rehearse.{Rehearsed, notRehearsed, rehearsed, Rehearses, recordRefusals, RehearsesFlat, RehearsesRecords}
+use Rattle.transfers.specs.Demand3.{chainTransfers}
+use Rattle.transfers.proofs.Determined.{one-list}
+use Rattle.transfers.proofs.Labels.{chainMoves}
+use Rattle.transfers.proofs.Chains.{chain-transfers-length, chain-comes, chain-verdicts, chain-applied}
+use Rattle.transfers.proofs.TwoRuns.{TwoLendings, label-holds}
+use Rattle.transfers.proofs.FlatBytes.{flatBytes}
+use Rattle.transfers.proofs.Accepted.{Ready, sheet-room, passed-room, records-refused-alike, records-pass}
+use Rattle.transfers.proofs.Entries.{flat-as-records}
+use Rattle.transfers.proofs.SameAnswers.{list-verdicts}
 
 -- a rehearsal of k transfers, accepted and all applied
 pub record AllApplied (k : ℕ) (r : Rehearsed) : Type 0 where

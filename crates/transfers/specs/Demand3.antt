@@ -6,8 +6,8 @@ use mathlib.Core.List.{List, [], _∷_}
 use lib.Dec.{ltb}
 use lib.ListN.{length, getD}
 use Rattle.answers.specs.declared.Counts.{Counts}
-use Rattle.rehearsal.specs.declared.Transfer.{Transfer}
-use Rattle.rehearsal.specs.Transfers.{transfer}
+use Rattle.transfers.specs.declared.Transfer.{Transfer}
+use Rattle.transfers.specs.Transfers.{transfer}
 
 -- "two sets of starting marks that differ at entity x only, lent in buffers of the same lengths"; n entities have marks
 pub record DifferAt (n x : ℕ) (marks marks′ : List ℕ) : Type 0 where

@@ -9,20 +9,20 @@ use Rattle.answers.specs.Rows.{count}
 use Rattle.answers.specs.Sheet.{sheetIn}
 use Rattle.theory.proofs.Chains.{chain-flow, one-best, shortest-distinct}
 use Rattle.access.specs.Channel.{Channel}
-use Rattle.rehearsal.specs.Acts.{verdict, verdictBytes, plus, acted, after}
-use Rattle.rehearsal.specs.Demand3.{transferOf, chainTransfers}
-use Rattle.rehearsal.specs.Transfers.{flatTransfers}
-use Rattle.rehearsal.specs.Rehearse.{tally, newTally, Rehearsed, rehearsed, raised, RehearsesRecords}
-use Rattle.rehearsal.proofs.Determined.{rehearse-determined, rehearse-records-determined}
-use Rattle.rehearsal.proofs.Moving.{AllMove}
-use Rattle.rehearsal.proofs.Shares.{share, weighed, final-mark}
-use Rattle.rehearsal.proofs.Labels.{chainMoves, chain-along, share-outside, share-along}
-use Rattle.rehearsal.proofs.TwoRuns.{label-lacks, label-holds}
-use Rattle.rehearsal.proofs.FlatBytes.{flatBytes}
-use Rattle.rehearsal.proofs.Chains.{chain-comes, chain-bytes}
-use Rattle.rehearsal.proofs.Entries.{threes-as-records}
-use Rattle.rehearsal.proofs.SameAnswers.{Alike, flat-alike, records-alike}
-use Rattle.rehearsal.proofs.ShownChain.{
+use Rattle.transfers.specs.Acts.{verdict, verdictBytes, plus, acted, after}
+use Rattle.transfers.specs.Demand3.{transferOf, chainTransfers}
+use Rattle.transfers.specs.Transfers.{flatTransfers}
+use Rattle.transfers.specs.Rehearse.{tally, newTally, Rehearsed, rehearsed, raised, RehearsesRecords}
+use Rattle.transfers.proofs.Determined.{rehearse-determined, rehearse-records-determined}
+use Rattle.transfers.proofs.Moving.{AllMove}
+use Rattle.transfers.proofs.Shares.{share, weighed, final-mark}
+use Rattle.transfers.proofs.Labels.{chainMoves, chain-along, share-outside, share-along}
+use Rattle.transfers.proofs.TwoRuns.{label-lacks, label-holds}
+use Rattle.transfers.proofs.FlatBytes.{flatBytes}
+use Rattle.transfers.proofs.Chains.{chain-comes, chain-bytes}
+use Rattle.transfers.proofs.Entries.{threes-as-records}
+use Rattle.transfers.proofs.SameAnswers.{Alike, flat-alike, records-alike}
+use Rattle.transfers.proofs.ShownChain.{
   RehearsesChain,
   RehearsesChainFlat,
   Reached,
@@ -31,9 +31,9 @@ use Rattle.rehearsal.proofs.ShownChain.{
   flat-reach,
   label-reaches-flat,
 }
-use Rattle.rehearsal.proofs.Examples.{Hop, few}
-use Rattle.rehearsal.proofs.SmallSheet.{inside, sides, best, 1-stays, sheet, sheet-best, 1-not-to-2}
-use Rattle.rehearsal.proofs.SmallCalls.{
+use Rattle.transfers.proofs.Examples.{Hop, few}
+use Rattle.transfers.proofs.SmallSheet.{inside, sides, best, 1-stays, sheet, sheet-best, 1-not-to-2}
+use Rattle.transfers.proofs.SmallCalls.{
   marks,
   starts-0,
   starts-1,

@@ -12,12 +12,12 @@ use Rattle.answers.specs.Sheet.{entities}
 use Rattle.theory.specs.Chain.{Chain, alone, link}
 use Rattle.theory.proofs.Chains.{chain-long}
 use Rattle.access.proofs.Channels.{TwoSided}
-use Rattle.rehearsal.specs.declared.Transfer.{Transfer}
-use Rattle.rehearsal.specs.Acts.{verdict, verdictBytes}
-use Rattle.rehearsal.specs.Transfers.{transfer, Way, toSubject, toObject, moves, AllCome, none, next}
-use Rattle.rehearsal.specs.Demand3.{transferOf, chainTransfers}
-use Rattle.rehearsal.proofs.FlatBytes.{flatBytes, Bytes, flat-bytes}
-use Rattle.rehearsal.proofs.Labels.{chainMoves, chain-moves}
+use Rattle.transfers.specs.declared.Transfer.{Transfer}
+use Rattle.transfers.specs.Acts.{verdict, verdictBytes}
+use Rattle.transfers.specs.Transfers.{transfer, Way, toSubject, toObject, moves, AllCome, none, next}
+use Rattle.transfers.specs.Demand3.{transferOf, chainTransfers}
+use Rattle.transfers.proofs.FlatBytes.{flatBytes, Bytes, flat-bytes}
+use Rattle.transfers.proofs.Labels.{chainMoves, chain-moves}
 
 -- the transfer from a to b goes that way
 transfer-way : {c : Counts} {a b : ℕ} → TwoSided c a b → Way c (transferOf c a b) a b

@@ -6,12 +6,12 @@ use mathlib.Core.List.{List}
 use lib.ListN.{length}
 use Rattle.answers.specs.Call.{Refusal, firstRefusal, Outcome}
 use Rattle.answers.specs.Sheet.{Lent}
-use Rattle.rehearsal.specs.declared.Transfer.{Transfer}
-use Rattle.rehearsal.specs.declared.Tally.{Tally}
-use Rattle.rehearsal.specs.Transfers.{flatTransfers}
-use Rattle.rehearsal.specs.Rehearse.{Rehearsed, RehearsesFlat, RehearsesRecords}
-use Rattle.rehearsal.proofs.FlatBytes.{flatBytes, flat-and-back, back-and-flat}
-use Rattle.rehearsal.proofs.Accepted.{entries-refuse-alike}
+use Rattle.transfers.specs.declared.Transfer.{Transfer}
+use Rattle.transfers.specs.declared.Tally.{Tally}
+use Rattle.transfers.specs.Transfers.{flatTransfers}
+use Rattle.transfers.specs.Rehearse.{Rehearsed, RehearsesFlat, RehearsesRecords}
+use Rattle.transfers.proofs.FlatBytes.{flatBytes, flat-and-back, back-and-flat}
+use Rattle.transfers.proofs.Accepted.{entries-refuse-alike}
 
 -- of an outcome only the first refusal and what is done count
 outcome-agrees : {R : Type 0} {refusals refusals′ : List Refusal} {refused : ℕ → R} {Done Done′ : R → Type 0} {r : R} →

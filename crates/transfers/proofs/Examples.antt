@@ -8,10 +8,10 @@ use lib.Dec.{lit<}
 use Rattle.answers.specs.declared.Counts.{Counts}
 use Rattle.answers.specs.Rows.{over, count}
 use Rattle.answers.specs.Sheet.{counts}
-use Rattle.rehearsal.specs.declared.Act.the-variants.{Moves, OutOfRange, NotPermitted}
-use Rattle.rehearsal.specs.declared.Transfer.{Transfer}
-use Rattle.rehearsal.specs.Acts.{verdict, verdictBytes, plus, acted, after}
-use Rattle.rehearsal.specs.Transfers.{
+use Rattle.transfers.specs.declared.Act.the-variants.{Moves, OutOfRange, NotPermitted}
+use Rattle.transfers.specs.declared.Transfer.{Transfer}
+use Rattle.transfers.specs.Acts.{verdict, verdictBytes, plus, acted, after}
+use Rattle.transfers.specs.Transfers.{
   transfer,
   flatTransfers,
   Way,
@@ -25,10 +25,10 @@ use Rattle.rehearsal.specs.Transfers.{
   none,
   next,
 }
-use Rattle.rehearsal.specs.Rehearse.{tally, raised, rehearsed, Rehearses}
-use Rattle.rehearsal.specs.Demand3.{transferOf, chainTransfers}
-use Rattle.rehearsal.proofs.Shares.{share}
-use Rattle.rehearsal.proofs.FlatBytes.{flatBytes}
+use Rattle.transfers.specs.Rehearse.{tally, raised, rehearsed, Rehearses}
+use Rattle.transfers.specs.Demand3.{transferOf, chainTransfers}
+use Rattle.transfers.proofs.Shares.{share}
+use Rattle.transfers.proofs.FlatBytes.{flatBytes}
 
 pub data Hop : ℕ → ℕ → Type 0 where
   written : Hop 0 2

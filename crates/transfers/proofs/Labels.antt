@@ -9,10 +9,10 @@ use Rattle.theory.specs.Flow.{Flow, here}
 use Rattle.theory.specs.Chain.{Chain, alone, link}
 use Rattle.theory.proofs.Flows.{flow-cons}
 use Rattle.theory.proofs.Distinct.{Absent, nowhere, further, Distinct, more}
-use Rattle.rehearsal.specs.declared.Act.{Act}
-use Rattle.rehearsal.specs.declared.Act.the-variants.{Moves}
-use Rattle.rehearsal.proofs.Moving.{AllMove, still, move, skip-outside, skip-barred}
-use Rattle.rehearsal.proofs.Shares.{share}
+use Rattle.transfers.specs.declared.Act.{Act}
+use Rattle.transfers.specs.declared.Act.the-variants.{Moves}
+use Rattle.transfers.proofs.Moving.{AllMove, still, move, skip-outside, skip-barred}
+use Rattle.transfers.proofs.Shares.{share}
 
 -- ---- outside y's label
 -- a number that is 0 wherever a and b are equal

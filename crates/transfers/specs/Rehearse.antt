@@ -12,11 +12,11 @@ use Rattle.answers.specs.Rows.{over, count, shorter, exceeds}
 use Rattle.answers.specs.Sheet.{Lent, sheetIn}
 use Rattle.answers.specs.Refusals.{sheetRefusals}
 use Rattle.access.specs.Channel.{Channel}
-use Rattle.rehearsal.specs.declared.Act.{Act}
-use Rattle.rehearsal.specs.declared.Transfer.{Transfer}
-use Rattle.rehearsal.specs.declared.Tally.{Tally}
-use Rattle.rehearsal.specs.Acts.{verdictBytes, after}
-use Rattle.rehearsal.specs.Transfers.{flatTransfers, AllCome}
+use Rattle.transfers.specs.declared.Act.{Act}
+use Rattle.transfers.specs.declared.Transfer.{Transfer}
+use Rattle.transfers.specs.declared.Tally.{Tally}
+use Rattle.transfers.specs.Acts.{verdictBytes, after}
+use Rattle.transfers.specs.Transfers.{flatTransfers, AllCome}
 
 -- the counts of 0, 10 and 16
 abbrev pub tally : ℕ → ℕ → ℕ → Tally

@@ -6,10 +6,10 @@ use Rattle.answers.specs.Call.{firstRefusal, _then_}
 use Rattle.answers.specs.Rows.{anyBelow}
 use Rattle.answers.specs.Sheet.{Lent, lent, counts}
 use Rattle.answers.specs.Refusals.{sheetRefusals}
-use Rattle.rehearsal.specs.declared.Tally.{Tally}
-use Rattle.rehearsal.specs.Transfers.{transfer}
-use Rattle.rehearsal.specs.Rehearse.{tally, newTally, tallyRefusals, rehearsalShort, rehearseRefusals, recordRefusals}
-use Rattle.rehearsal.proofs.SmallSheet.{sheet}
+use Rattle.transfers.specs.declared.Tally.{Tally}
+use Rattle.transfers.specs.Transfers.{transfer}
+use Rattle.transfers.specs.Rehearse.{tally, newTally, tallyRefusals, rehearsalShort, rehearseRefusals, recordRefusals}
+use Rattle.transfers.proofs.SmallSheet.{sheet}
 
 -- of a list of n bytes, with m marks and v verdict bytes
 flat : Lent → ℕ → ℕ → ℕ → Tally → ℕ

@@ -3,3 +3,4 @@ pub mod Acts
 pub mod Transfers
 pub mod Rehearse
 pub mod Demand3
+pub mod Inner

@@ -14,7 +14,7 @@ use Rattle.theory.proofs.Chains.{best-agrees}
 use Rattle.access.specs.Channel.{Has, Grants, Assigned, Plain, Channel, reads, writes}
 use Rattle.access.specs.Channel.{read as reading, write as writing}
 use Rattle.access.proofs.Channels.{TwoSided}
-use Rattle.rehearsal.proofs.Examples.{Hop, written, read, few, nothing-from-1}
+use Rattle.transfers.proofs.Examples.{Hop, written, read, few, nothing-from-1}
 
 pub inside : Inside 3 Hop
 inside _ _ written = (lit< tt, lit< tt)

@@ -15,12 +15,12 @@ use Rattle.theory.specs.Flow.{Flow, here}
 use Rattle.theory.proofs.Flows.{Inside}
 use Rattle.access.specs.Channel.{Channel}
 use Rattle.access.proofs.Channels.{channel-inside}
-use Rattle.rehearsal.specs.declared.Act.{Act}
-use Rattle.rehearsal.specs.declared.Transfer.{Transfer}
-use Rattle.rehearsal.specs.declared.Tally.{Tally}
-use Rattle.rehearsal.specs.Acts.{verdictBytes}
-use Rattle.rehearsal.specs.Transfers.{AllCome}
-use Rattle.rehearsal.specs.Rehearse.{
+use Rattle.transfers.specs.declared.Act.{Act}
+use Rattle.transfers.specs.declared.Transfer.{Transfer}
+use Rattle.transfers.specs.declared.Tally.{Tally}
+use Rattle.transfers.specs.Acts.{verdictBytes}
+use Rattle.transfers.specs.Transfers.{AllCome}
+use Rattle.transfers.specs.Rehearse.{
   Rehearsed,
   notRehearsed,
   rehearsed,
@@ -30,11 +30,11 @@ use Rattle.rehearsal.specs.Rehearse.{
   RehearsesFlat,
   RehearsesRecords,
 }
-use Rattle.rehearsal.proofs.Determined.{one-list}
-use Rattle.rehearsal.proofs.Moving.{come-length}
-use Rattle.rehearsal.proofs.TwoRuns.{Starts, TwoLendings, label-lacks}
-use Rattle.rehearsal.proofs.FlatBytes.{transfers-length}
-use Rattle.rehearsal.proofs.Accepted.{passed-room, flat-refused-alike, records-refused-alike}
+use Rattle.transfers.proofs.Determined.{one-list}
+use Rattle.transfers.proofs.Moving.{come-length}
+use Rattle.transfers.proofs.TwoRuns.{Starts, TwoLendings, label-lacks}
+use Rattle.transfers.proofs.FlatBytes.{transfers-length}
+use Rattle.transfers.proofs.Accepted.{passed-room, flat-refused-alike, records-refused-alike}
 
 -- what two results of one list of k transfers among n entities have in common
 pub record Alike (n : ℕ) (ch : ℕ → ℕ → Type 0) (x k : ℕ) (r r′ : Rehearsed) : Type 0 where

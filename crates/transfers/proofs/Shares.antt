@@ -11,12 +11,12 @@ use lib.ListN.{length, getD}
 use lib.Seq.{getD-set-same, getD-set-other}
 use borrow.Author.Tests.{eq-eqb, ne-eqb}
 use Rattle.theory.proofs.Flows.{Inside}
-use Rattle.rehearsal.specs.declared.Act.{Act}
-use Rattle.rehearsal.specs.declared.Act.the-variants.{Moves, OutOfRange, NotPermitted}
-use Rattle.rehearsal.specs.Acts.{plus, acted, after}
-use Rattle.rehearsal.specs.Demand3.{DifferAt}
-use Rattle.rehearsal.proofs.Moving.{AllMove, still, move, skip-outside, skip-barred, Marks32, acted-length, acted-marks}
-use Rattle.rehearsal.proofs.Sums.{sumBelow, sum-but-one, sum-of-one}
+use Rattle.transfers.specs.declared.Act.{Act}
+use Rattle.transfers.specs.declared.Act.the-variants.{Moves, OutOfRange, NotPermitted}
+use Rattle.transfers.specs.Acts.{plus, acted, after}
+use Rattle.transfers.specs.Demand3.{DifferAt}
+use Rattle.transfers.proofs.Moving.{AllMove, still, move, skip-outside, skip-barred, Marks32, acted-length, acted-marks}
+use Rattle.transfers.proofs.Sums.{sumBelow, sum-but-one, sum-of-one}
 
 -- with no act left, x's mark enters y's once if x is y; a move from a to b lets a's mark enter wherever b's does from there on
 unfoldable pub share : List Act → ℕ → ℕ → ℕ

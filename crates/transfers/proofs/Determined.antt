@@ -6,12 +6,12 @@ use native.Mathlib.Omega.{arith}
 use Rattle.answers.specs.declared.Counts.{Counts}
 use Rattle.answers.specs.Sheet.{Lent}
 use Rattle.answers.proofs.Calls.{determined}
-use Rattle.rehearsal.specs.declared.Act.{Act}
-use Rattle.rehearsal.specs.declared.Act.the-variants.{Moves}
-use Rattle.rehearsal.specs.declared.Transfer.{Transfer}
-use Rattle.rehearsal.specs.declared.Tally.{Tally}
-use Rattle.rehearsal.specs.Transfers.{Way, toSubject, toObject, Comes, moves, outside, barred, AllCome, none, next}
-use Rattle.rehearsal.specs.Rehearse.{Rehearsed, rehearsed, Rehearses, RehearsesFlat, RehearsesRecords}
+use Rattle.transfers.specs.declared.Act.{Act}
+use Rattle.transfers.specs.declared.Act.the-variants.{Moves}
+use Rattle.transfers.specs.declared.Transfer.{Transfer}
+use Rattle.transfers.specs.declared.Tally.{Tally}
+use Rattle.transfers.specs.Transfers.{Way, toSubject, toObject, Comes, moves, outside, barred, AllCome, none, next}
+use Rattle.transfers.specs.Rehearse.{Rehearsed, rehearsed, Rehearses, RehearsesFlat, RehearsesRecords}
 
 module _ {c : Counts} {t : Transfer} where
   pub one-way : {a b a′ b′ : ℕ} → Way c t a b → Way c t a′ b′ → (a ≡ a′) × (b ≡ b′)

@@ -5,11 +5,11 @@ use mathlib.Core.Path.{_≡_, refl}
 use mathlib.Core.List.{List, [], _∷_}
 use lib.ListN.{length, getD, set, length-set}
 use Rattle.answers.specs.declared.Counts.{Counts}
-use Rattle.rehearsal.specs.declared.Act.{Act}
-use Rattle.rehearsal.specs.declared.Act.the-variants.{Moves, OutOfRange, NotPermitted}
-use Rattle.rehearsal.specs.declared.Transfer.{Transfer}
-use Rattle.rehearsal.specs.Acts.{plus, acted, verdictBytes}
-use Rattle.rehearsal.specs.Transfers.{moves, outside, barred, AllCome, none, next}
+use Rattle.transfers.specs.declared.Act.{Act}
+use Rattle.transfers.specs.declared.Act.the-variants.{Moves, OutOfRange, NotPermitted}
+use Rattle.transfers.specs.declared.Transfer.{Transfer}
+use Rattle.transfers.specs.Acts.{plus, acted, verdictBytes}
+use Rattle.transfers.specs.Transfers.{moves, outside, barred, AllCome, none, next}
 
 -- each act that moves does so along R
 pub data AllMove (R : ℕ → ℕ → Type 0) : List Act → Type 0 where

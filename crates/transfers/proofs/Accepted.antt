@@ -14,11 +14,11 @@ use Rattle.answers.specs.Sheet.{Lent, entities}
 use Rattle.answers.specs.Refusals.{sheetRefusals}
 use Rattle.answers.proofs.Calls.{passed-then, pass-then}
 use Rattle.answers.proofs.Accepted.{sheet-numbered, tables-passed}
-use Rattle.rehearsal.specs.declared.Transfer.{Transfer}
-use Rattle.rehearsal.specs.declared.Tally.{Tally}
-use Rattle.rehearsal.specs.Rehearse.{tallyRefusals, rehearsalShort, rehearseRefusals, recordRefusals}
-use Rattle.rehearsal.proofs.TwoRuns.{TwoLendings}
-use Rattle.rehearsal.proofs.FlatBytes.{flatBytes, flat-length}
+use Rattle.transfers.specs.declared.Transfer.{Transfer}
+use Rattle.transfers.specs.declared.Tally.{Tally}
+use Rattle.transfers.specs.Rehearse.{tallyRefusals, rehearsalShort, rehearseRefusals, recordRefusals}
+use Rattle.transfers.proofs.TwoRuns.{TwoLendings}
+use Rattle.transfers.proofs.FlatBytes.{flatBytes, flat-length}
 
 -- a sound sheet, buffers that are long enough and a tally that has room
 pub record Ready (l : Lent) (marks verdicts : List ℕ) (t : Tally) : Type 0 where
