@@ -1,9 +1,10 @@
 // One change at a time: one assignment byte or one permission byte.
+use answers::Counts;
 ghost use mathlib.Core.Path.{_≡_};
 ghost use Prim.Native.Nat.{_+_, _*_, _<_};
 ghost use lib.ListN.{length, set};
 ghost use Rattle.answers.specs.Call.{firstRefusal};
-ghost use Rattle.answers.specs.Sheet.{counts, lent};
+ghost use Rattle.answers.specs.Sheet.{lent};
 ghost use Rattle.change.specs.Change.{SetsAssignment, SetsPermission};
 ghost use Rattle.change.specs.Inner.{rangeRefusals};
 
@@ -34,60 +35,46 @@ fn put(bytes: &mut [u8], n: usize, i: usize, j: usize, value: u8)
 
 // Sets whether subject `s` has role `r`. Refuses with 1, 5, 11 and 6, in this order, and then changes nothing.
 pub fn set_assignment(
-    subjects: usize,
-    objects: usize,
-    roles: usize,
+    counts: Counts,
     assignment: &mut [u8],
     permission: &[u8],
     s: usize,
     r: usize,
     value: u8,
 ) -> u8
-    ensures { λ res. ⌜ SetsAssignment (lent (counts subjects objects roles) (now (assignment .entry)) (now (permission .entry))) s r value (res, now (assignment .exit)) ⌝ }
+    ensures { λ res. ⌜ SetsAssignment (lent counts (now (assignment .entry)) (now (permission .entry))) s r value (res, now (assignment .exit)) ⌝ }
 {
-    let counts = answers::Counts {
-        subjects: subjects,
-        objects: objects,
-        roles: roles,
-    };
     let refusal = answers::sheet_refusal(false, false, counts, assignment, permission);
     if refusal != 0 {
         return refusal;
     }
-    let outside = range_refusal(subjects, roles, 1, s, r, value);
+    let outside = range_refusal(counts.subjects, counts.roles, 1, s, r, value);
     if outside != 0 {
         return outside;
     }
-    put(assignment, roles, s, r, value);
+    put(assignment, counts.roles, s, r, value);
     0
 }
 
 // Sets the mode that role `r` has on object `o`; 0 takes it away. Refuses as `set_assignment` does.
 pub fn set_permission(
-    subjects: usize,
-    objects: usize,
-    roles: usize,
+    counts: Counts,
     assignment: &[u8],
     permission: &mut [u8],
     r: usize,
     o: usize,
     mode: u8,
 ) -> u8
-    ensures { λ res. ⌜ SetsPermission (lent (counts subjects objects roles) (now (assignment .entry)) (now (permission .entry))) r o mode (res, now (permission .exit)) ⌝ }
+    ensures { λ res. ⌜ SetsPermission (lent counts (now (assignment .entry)) (now (permission .entry))) r o mode (res, now (permission .exit)) ⌝ }
 {
-    let counts = answers::Counts {
-        subjects: subjects,
-        objects: objects,
-        roles: roles,
-    };
     let refusal = answers::sheet_refusal(false, false, counts, assignment, permission);
     if refusal != 0 {
         return refusal;
     }
-    let outside = range_refusal(roles, objects, 3, r, o, mode);
+    let outside = range_refusal(counts.roles, counts.objects, 3, r, o, mode);
     if outside != 0 {
         return outside;
     }
-    put(permission, objects, r, o, mode);
+    put(permission, counts.objects, r, o, mode);
     0
 }
