@@ -1,4 +1,5 @@
-// A case for the program `drive`, and what it should answer: six numbers and six buffers, before and after.
+// A case for the program `drive`, and what it should answer: six numbers and six buffers, before and after. The calls, their numbers
+// and their buffers are those of drive's head comment.
 use crate::oracle::*;
 
 #[derive(Clone, Debug, PartialEq, Eq)]
@@ -17,6 +18,17 @@ pub struct Answer {
 pub const READ: u8 = 1;
 pub const WRITE: u8 = 2;
 pub const REFUSED_LINE: u8 = 3;
+pub const FILL: u8 = 4;
+pub const FLOWS: u8 = 5;
+pub const LABEL_OF: u8 = 6;
+pub const CLASS_NAME: u8 = 7;
+pub const COMPARE: u8 = 8;
+pub const GREATEST: u8 = 9;
+pub const EFFECT_OF: u8 = 10;
+pub const CHOSEN_ROW: u8 = 11;
+pub const SET_ASSIGNMENT: u8 = 12;
+pub const SET_PERMISSION: u8 = 13;
+pub const SHOWN_CHAIN: u8 = 14;
 
 fn six<T: Default>(given: Vec<T>) -> [T; 6] {
     let mut all = given;
@@ -28,6 +40,14 @@ fn six<T: Default>(given: Vec<T>) -> [T; 6] {
 
 pub fn case(call: u8, numbers: Vec<u64>, buffers: Vec<Vec<u8>>) -> Case {
     Case { call, numbers: six(numbers), buffers: six(buffers) }
+}
+
+// The numbers of an answer, and the buffers that are not as they were.
+type Outcome = (Vec<u64>, Vec<(usize, Vec<u8>)>);
+
+// A refusal tells its number alone and changes nothing.
+fn refused(number: u8) -> Outcome {
+    (vec![number as u64], vec![])
 }
 
 impl Case {
@@ -46,67 +66,174 @@ impl Case {
         line(&bytes)
     }
 
-    fn tables(&self) -> Tables<'_> {
-        let n = &self.numbers;
-        Tables { s: n[0] as usize, o: n[1] as usize, r: n[2] as usize, assignment: &self.buffers[0], permission: &self.buffers[1] }
-    }
-
     // What document 01 says the call answers and leaves.
     pub fn expected(&self) -> Answer {
-        let mut numbers = vec![];
+        let (numbers, changed) = self.outcome();
         let mut buffers = self.buffers.clone();
-        match self.call {
-            READ => {
-                let [text, assignment, permission, separations, ..] = &self.buffers;
-                let short = assignment.len() < ASSIGNMENT || permission.len() < PERMISSION || separations.len() < SEPARATIONS;
-                let result = if short { Err((1, 0)) } else { read_text(text) };
-                match result {
-                    Err((n, line)) => numbers = vec![n as u64, line as u64],
-                    Ok(t) => {
-                        numbers = vec![0, 0, t.s as u64, t.o as u64, t.r as u64, t.separations.len() as u64];
-                        let pairs: Vec<u8> = t.separations.iter().flat_map(|p| [p.0, p.1]).collect();
-                        buffers[1] = over(&t.assignment, assignment);
-                        buffers[2] = over(&t.permission, permission);
-                        buffers[3] = over(&pairs, separations);
-                    }
-                }
-            }
-            WRITE => {
-                let text = &self.buffers[3];
-                match self.tables().separated(text.len() < TEXT, self.numbers[3] as usize, &self.buffers[2]) {
-                    Err(n) => numbers = vec![n as u64],
-                    Ok(t) => {
-                        let written = t.text();
-                        numbers = vec![0, written.len() as u64];
-                        buffers[3] = over(&written, text);
-                    }
-                }
-            }
-            REFUSED_LINE => {
-                let (start, length) = refused_line(&self.buffers[0], self.numbers[0]);
-                numbers = vec![length as u64];
-                buffers[1] = over(&self.buffers[0][start..start + length], &self.buffers[1]);
-            }
-            other => panic!("no call has the number {other}"),
+        for (i, front) in changed {
+            buffers[i] = over(&front, &self.buffers[i]);
         }
         Answer { numbers: six(numbers), buffers }
+    }
+
+    fn outcome(&self) -> Outcome {
+        match self.call {
+            READ => self.read(),
+            WRITE => self.write(),
+            REFUSED_LINE => self.refused_line(),
+            FILL => self.fill(),
+            FLOWS | LABEL_OF | CLASS_NAME | COMPARE | GREATEST => self.question(),
+            EFFECT_OF => self.effect(),
+            CHOSEN_ROW => self.chosen_row(),
+            SET_ASSIGNMENT | SET_PERMISSION => self.change(),
+            SHOWN_CHAIN => self.chain(),
+            other => panic!("no call has the number {other}"),
+        }
+    }
+
+    fn number(&self, i: usize) -> usize {
+        self.numbers[i] as usize
+    }
+
+    fn tables(&self) -> Tables<'_> {
+        Tables { s: self.number(0), o: self.number(1), r: self.number(2), assignment: &self.buffers[0], permission: &self.buffers[1] }
+    }
+
+    fn flow(&self, i: usize) -> FlowTable<'_> {
+        FlowTable { n: self.number(0), bytes: &self.buffers[i] }
+    }
+
+    fn read(&self) -> Outcome {
+        let [text, assignment, permission, separations, ..] = &self.buffers;
+        if assignment.len() < ASSIGNMENT || permission.len() < PERMISSION || separations.len() < SEPARATIONS {
+            return refused(1);
+        }
+        match read_text(text) {
+            Err((number, at)) => (vec![number as u64, at as u64], vec![]),
+            Ok(t) => {
+                let pairs = t.pairs();
+                let numbers = [0, 0, t.s, t.o, t.r, t.separations.len()].map(|n| n as u64).to_vec();
+                (numbers, vec![(1, t.assignment), (2, t.permission), (3, pairs)])
+            }
+        }
+    }
+
+    fn write(&self) -> Outcome {
+        match self.tables().separated(self.buffers[3].len() < TEXT, self.number(3), &self.buffers[2]) {
+            Err(number) => refused(number),
+            Ok(t) => (vec![0, t.text().len() as u64], vec![(3, t.text())]),
+        }
+    }
+
+    fn refused_line(&self) -> Outcome {
+        let text = &self.buffers[0];
+        let (start, length) = refused_line(text, self.numbers[0]);
+        (vec![length as u64], vec![(1, text[start..start + length].to_vec())])
+    }
+
+    fn fill(&self) -> Outcome {
+        match self.tables().sheet(self.buffers[2].len() < FLOW, false) {
+            Err(number) => refused(number),
+            Ok(t) => (vec![0], vec![(2, t.flow_bytes())]),
+        }
+    }
+
+    fn question(&self) -> Outcome {
+        let table = self.flow(0);
+        let (x, y) = (self.number(1), self.number(2));
+        let two = matches!(self.call, FLOWS | COMPARE);
+        let short = self.call == LABEL_OF && self.buffers[1].len() < LABEL;
+        let asked = if two { vec![x, y] } else { vec![x] };
+        let refusal = table.refusal(short, &asked);
+        if refusal != 0 {
+            return refused(refusal);
+        }
+        let value = match self.call {
+            FLOWS => table.to(x, y) as usize,
+            LABEL_OF => table.label(x).iter().filter(|&&b| b == 1).count(),
+            CLASS_NAME => table.class_name(x),
+            GREATEST => table.flags(x),
+            _ => match (table.to(x, y), table.to(y, x)) {
+                (true, true) => 1,
+                (true, false) => 2,
+                (false, true) => 3,
+                (false, false) => 4,
+            },
+        };
+        let written = if self.call == LABEL_OF { vec![(1, table.label(x))] } else { vec![] };
+        (vec![0, value as u64], written)
+    }
+
+    fn effect(&self) -> Outcome {
+        let (before, after) = (self.flow(0), self.flow(1));
+        let short = self.buffers[1].len() < FLOW || self.buffers[2].len() < EFFECT;
+        let refusal = before.refusal(short, &[]);
+        if refusal != 0 {
+            return refused(refusal);
+        }
+        let refusal = after.refusal(false, &[]);
+        if refusal != 0 {
+            return refused(refusal);
+        }
+        (vec![0], vec![(2, effects(&before, &after))])
+    }
+
+    fn chosen_row(&self) -> Outcome {
+        let (n, choice, x) = (self.number(0), self.number(1), self.number(2));
+        let bad = self.buffers[0].len() < FLOW || self.buffers[1].len() < FLOW || n > 112 || choice > 1 || x >= n;
+        let row = if bad { vec![] } else { self.buffers[choice][x * n..x * n + n].to_vec() };
+        let room = self.buffers[2].len().min(row.len());
+        (vec![row.len() as u64], vec![(2, row[..room].to_vec())])
+    }
+
+    fn change(&self) -> Outcome {
+        let t = match self.tables().sheet(false, false) {
+            Err(number) => return refused(number),
+            Ok(t) => t,
+        };
+        let assigns = self.call == SET_ASSIGNMENT;
+        let (rows, columns, most) = if assigns { (t.s, t.r, 1) } else { (t.r, t.o, 3) };
+        let (i, j, value) = (self.number(3), self.number(4), (self.numbers[5] % 256) as u8);
+        if i >= rows || j >= columns || value > most {
+            return refused(6);
+        }
+        let at = if assigns { 0 } else { 1 };
+        let mut table = if assigns { t.assignment } else { t.permission };
+        table[i * columns + j] = value;
+        (vec![0], vec![(at, table)])
+    }
+
+    fn chain(&self) -> Outcome {
+        let (x, y) = (self.number(3), self.number(4));
+        let t = match self.tables().sheet(self.buffers[2].len() < CHAIN, false) {
+            Err(number) => return refused(number),
+            Ok(t) => t,
+        };
+        if x >= t.n() || y >= t.n() {
+            return refused(10);
+        }
+        match t.chain(x, y) {
+            None => refused(13),
+            Some(chain) => (vec![0, chain.len() as u64], vec![(2, chain)]),
+        }
     }
 }
 
 // The answer line of `drive` for a case.
-pub fn answer(case: &Case, text: &str) -> Option<Answer> {
-    let digits = text.trim_end();
+pub fn answer(case: &Case, text: &[u8]) -> Option<Answer> {
     let size: usize = case.buffers.iter().map(|b| b.len()).sum();
-    if digits.len() != 2 * (48 + size) || !digits.is_ascii() {
+    let digits = text.strip_suffix(b"\n")?;
+    if digits.len() != 2 * (48 + size) {
         return None;
     }
-    let bytes: Vec<u8> = (0..48 + size).map(|i| u8::from_str_radix(&digits[2 * i..2 * i + 2], 16)).collect::<Result<_, _>>().ok()?;
+    let value = |d: u8| (d as char).to_digit(16).map(|v| v as u8);
+    let bytes: Vec<u8> = digits.chunks(2).map(|d| Some(value(d[0])? * 16 + value(d[1])?)).collect::<Option<_>>()?;
     let mut numbers = [0; 6];
     for (i, n) in numbers.iter_mut().enumerate() {
         *n = u64::from_be_bytes(bytes[8 * i..8 * i + 8].try_into().unwrap());
     }
     let mut at = 48;
-    let buffers = case.buffers.clone().map(|b| {
+    let buffers = case.buffers.each_ref().map(|b| {
         at += b.len();
         bytes[at - b.len()..at].to_vec()
     });

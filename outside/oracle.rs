@@ -7,8 +7,12 @@ pub const PERMISSION: usize = 3072;
 pub const SEPARATIONS: usize = 128;
 pub const FLOW: usize = 12544;
 pub const CHAIN: usize = 112;
+pub const LABEL: usize = 112;
+pub const EFFECT: usize = 112;
 pub const TEXT: usize = 44240;
+pub const MARKS: usize = 112;
 pub const VERDICTS: usize = 4096;
+pub const OUTPUT: usize = 1435;
 
 #[derive(Clone, Debug, PartialEq, Eq)]
 pub struct Sheet {
@@ -98,6 +102,11 @@ impl Sheet {
             chain.push(at as u8);
         }
         Some(chain)
+    }
+
+    // The separations as bytes, two each.
+    pub fn pairs(&self) -> Vec<u8> {
+        self.separations.iter().flat_map(|p| [p.0, p.1]).collect()
     }
 
     pub fn text(&self) -> Vec<u8> {
@@ -303,4 +312,114 @@ pub fn refused_line(text: &[u8], k: u64) -> (usize, usize) {
         number += 1;
     }
     (text.len(), 0)
+}
+
+// ---- questions on a flow table, by its bytes alone
+pub struct FlowTable<'a> {
+    pub n: usize,
+    pub bytes: &'a [u8],
+}
+
+impl FlowTable<'_> {
+    pub fn to(&self, x: usize, y: usize) -> bool {
+        self.bytes[x * self.n + y] == 1
+    }
+
+    fn faulty(&self) -> bool {
+        let n = self.n;
+        self.bytes[..n * n].iter().any(|&b| b > 1) || (0..n).any(|x| !self.to(x, x))
+    }
+
+    // 1, 5, 12, 10
+    pub fn refusal(&self, other_short: bool, asked: &[usize]) -> u8 {
+        if other_short || self.bytes.len() < FLOW {
+            1
+        } else if self.n > 112 {
+            5
+        } else if self.faulty() {
+            12
+        } else if asked.iter().any(|&x| x >= self.n) {
+            10
+        } else {
+            0
+        }
+    }
+
+    pub fn label(&self, x: usize) -> Vec<u8> {
+        (0..self.n).map(|y| self.to(y, x) as u8).collect()
+    }
+
+    pub fn class_name(&self, x: usize) -> usize {
+        (0..self.n).find(|&y| self.to(x, y) && self.to(y, x)).unwrap()
+    }
+
+    // 1 greatest secrecy, 2 greatest integrity, summed.
+    pub fn flags(&self, x: usize) -> usize {
+        let others = || (0..self.n).filter(move |&y| y != x);
+        let secrecy = !others().any(|y| self.to(x, y));
+        let integrity = !others().any(|y| self.to(y, x));
+        secrecy as usize + 2 * integrity as usize
+    }
+}
+
+pub fn effects(before: &FlowTable, after: &FlowTable) -> Vec<u8> {
+    let one = |x: usize| {
+        let (old, new) = (before.label(x), after.label(x));
+        let gained = old.iter().zip(&new).any(|(a, b)| a < b);
+        let lost = old.iter().zip(&new).any(|(a, b)| a > b);
+        gained as u8 + 2 * lost as u8
+    };
+    (0..before.n).map(one).collect()
+}
+
+impl Sheet {
+    pub fn flow_bytes(&self) -> Vec<u8> {
+        self.flow().iter().flatten().map(|&b| b as u8).collect()
+    }
+
+    // The position and the chain of the first broken separation.
+    pub fn broken(&self) -> Option<(usize, Vec<u8>)> {
+        self.separations.iter().enumerate().find_map(|(i, &(x, y))| self.chain(x as usize, y as usize).map(|c| (i, c)))
+    }
+
+    // The marks and the verdict bytes after a list of transfers.
+    pub fn rehearsed(&self, transfers: &[u8], marks: &[u32]) -> (Vec<u32>, Vec<u8>) {
+        let mut marks = marks.to_vec();
+        let verdicts = transfers.chunks(3).map(|t| self.transfer(t, &mut marks)).collect();
+        (marks, verdicts)
+    }
+
+    fn transfer(&self, t: &[u8], marks: &mut [u32]) -> u8 {
+        let (s, o, mode) = (t[0] as usize, t[1] as usize, t[2]);
+        if s >= self.s || o >= self.o || mode == 0 || mode > 2 {
+            return 10;
+        }
+        if !self.may(s, o, mode) {
+            return 16;
+        }
+        let (source, destination) = if mode == 1 { (self.s + o, s) } else { (s, self.s + o) };
+        marks[destination] = ((marks[destination] as u64 + marks[source] as u64) % (1 << 32)) as u32;
+        0
+    }
+}
+
+// The whole output of the program for a text.
+pub fn output(text: &[u8]) -> Vec<u8> {
+    let sheet = match read_text(text) {
+        Err((number, at)) => return line(&[0x80, number, (at / 256) as u8, (at % 256) as u8]),
+        Ok(sheet) => sheet,
+    };
+    let flow = sheet.flow_bytes();
+    let table = FlowTable { n: sheet.n(), bytes: &flow };
+    let mut out = vec![];
+    for x in 0..sheet.n() {
+        let size: u8 = table.label(x).iter().sum();
+        out.extend(line(&[0x81, x as u8, table.class_name(x) as u8, table.flags(x) as u8, size]));
+    }
+    let verdict = match sheet.broken() {
+        None => vec![0x82, 0],
+        Some((i, chain)) => [vec![0x82, 1, i as u8, chain.len() as u8], chain].concat(),
+    };
+    out.extend(line(&verdict));
+    out
 }

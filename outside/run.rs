@@ -1,135 +1,19 @@
-// The outside tests: cases made from a seed and from documents, run through the built program `drive` and compared with an
+// The outside tests: cases from a seed and from a list of texts, run through the built program `drive` and compared with an
 // independent implementation. usage: run DRIVE TEXTS [SEED [COUNT]]. The last line is 'N passed, M failed'.
 mod cases;
 mod oracle;
+mod sheets;
 
 use cases::*;
 use oracle::*;
+use sheets::*;
 use std::io::{BufRead, BufReader, Write};
 use std::process::{Command, Stdio};
 
-// A small generator of numbers (xorshift), so that a seed gives the same cases everywhere.
-struct Random(u64);
-
-impl Random {
-    fn next(&mut self) -> u64 {
-        self.0 ^= self.0 << 13;
-        self.0 ^= self.0 >> 7;
-        self.0 ^= self.0 << 17;
-        self.0
-    }
-
-    fn below(&mut self, n: usize) -> usize {
-        (self.next() >> 11) as usize % n.max(1)
-    }
-
-    fn one_in(&mut self, n: usize) -> bool {
-        self.below(n) == 0
-    }
-}
-
-fn sheet(random: &mut Random, full: bool) -> Sheet {
-    let (s, o, r) = if full { (48, 64, 48) } else { (random.below(7), random.below(7), random.below(7)) };
-    let mut t = Sheet::blank(s, o, r);
-    let (assigned, permitted) = (1 + random.below(6), 1 + random.below(6));
-    for b in t.assignment.iter_mut() {
-        *b = random.one_in(assigned) as u8;
-    }
-    for b in t.permission.iter_mut() {
-        *b = if random.one_in(permitted) { 1 + random.below(3) as u8 } else { 0 };
-    }
-    let mut pairs: Vec<(u8, u8)> = vec![];
-    if t.n() > 0 {
-        for _ in 0..random.below(if full { 65 } else { 9 }) {
-            pairs.push((random.below(t.n()) as u8, random.below(t.n()) as u8));
-        }
-    }
-    pairs.sort();
-    pairs.dedup();
-    t.separations = pairs;
-    t
-}
-
-fn largest() -> Sheet {
-    let mut t = Sheet::blank(48, 64, 48);
-    t.assignment.fill(1);
-    t.permission.fill(3);
-    t.separations = (0..64).map(|i| (i, 111 - i)).collect();
-    t
-}
-
-// A buffer of some length that holds other bytes.
-fn buffer(least: usize, random: &mut Random) -> Vec<u8> {
-    let longer = if random.one_in(2) { random.below(40) } else { 0 };
-    vec![if random.one_in(2) { 255 } else { random.next() as u8 }; least + longer]
-}
+// ---- the text of a sheet
 
 fn read_case(text: Vec<u8>, random: &mut Random) -> Case {
     case(READ, vec![], vec![text, buffer(ASSIGNMENT, random), buffer(PERMISSION, random), buffer(SEPARATIONS, random)])
-}
-
-// A sound text, damaged at one place.
-fn damaged(mut text: Vec<u8>, random: &mut Random) -> Vec<u8> {
-    let at = random.below(text.len());
-    match random.below(7) {
-        0 => text[at] = random.next() as u8,
-        1 => text[at] = b"0123456789abcdef\nABC\r"[random.below(21)],
-        2 => {
-            text.remove(at);
-        }
-        3 => text.insert(at, b"0123456789abcdef\n"[random.below(17)]),
-        4 => text.truncate(at),
-        5 => {
-            let mut lines: Vec<Vec<u8>> = text.split_inclusive(|&b| b == b'\n').map(|l| l.to_vec()).collect();
-            let (i, j) = (random.below(lines.len()), random.below(lines.len()));
-            lines.swap(i, j);
-            text = lines.concat();
-        }
-        _ => {
-            let lines: Vec<Vec<u8>> = text.split_inclusive(|&b| b == b'\n').map(|l| l.to_vec()).collect();
-            let i = random.below(lines.len());
-            let mut more = lines.clone();
-            more.insert(random.below(lines.len() + 1), lines[i].clone());
-            text = more.concat();
-        }
-    }
-    text
-}
-
-fn tables(t: &Sheet, random: &mut Random) -> Vec<Vec<u8>> {
-    let pairs: Vec<u8> = t.separations.iter().flat_map(|p| [p.0, p.1]).collect();
-    let place = |part: &[u8], least: usize, random: &mut Random| over(part, &buffer(least, random));
-    vec![place(&t.assignment, ASSIGNMENT, random), place(&t.permission, PERMISSION, random), place(&pairs, SEPARATIONS, random)]
-}
-
-fn write_case(t: &Sheet, random: &mut Random) -> Case {
-    let mut buffers = tables(t, random);
-    buffers.push(buffer(TEXT, random));
-    case(WRITE, vec![t.s as u64, t.o as u64, t.r as u64, t.separations.len() as u64], buffers)
-}
-
-// One thing wrong with the lent tables, numbers or lengths.
-fn spoiled(mut c: Case, random: &mut Random) -> Case {
-    match random.below(6) {
-        0 => {
-            let i = random.below(4);
-            let short = random.below(c.buffers[i].len() + 1);
-            c.buffers[i].truncate(short);
-        }
-        1 => c.numbers[random.below(4)] = [49, 65, u64::MAX, 1 << 63, 112, 0][random.below(6)],
-        2 | 3 => {
-            let i = random.below(3);
-            let used = 1 + random.below(30);
-            let at = random.below(used);
-            c.buffers[i][at] = random.next() as u8;
-        }
-        4 => c.numbers[3] = c.numbers[3].wrapping_add(1 + random.below(70) as u64),
-        _ => {
-            let last = 2 * c.numbers[3].min(60) as usize;
-            c.buffers[2].swap(random.below(last + 1), random.below(last + 1));
-        }
-    }
-    c
 }
 
 // The texts that are written out in a file, with the number and the line that document 01 gives them.
@@ -175,51 +59,220 @@ fn long_texts() -> Vec<(u8, usize, Vec<u8>)> {
     ]
 }
 
-fn cases(seed: u64, count: usize) -> Vec<Case> {
-    let mut random = Random(seed | 1);
-    let mut all = vec![write_case(&largest(), &mut random)];
-    for i in 0..count {
-        let t = sheet(&mut random, i % 40 == 0);
-        all.push(read_case(t.text(), &mut random));
-        let d = damaged(t.text(), &mut random);
-        all.push(case(REFUSED_LINE, vec![random.below(12) as u64], vec![d.clone(), vec![7; d.len() + 3]]));
-        all.push(read_case(d, &mut random));
-        let w = write_case(&t, &mut random);
-        all.push(spoiled(w.clone(), &mut random));
-        all.push(w);
-        let mut r = read_case(t.text(), &mut random);
-        let i = 1 + random.below(3);
-        let short = random.below(r.buffers[i].len());
-        r.buffers[i].truncate(short);
-        all.push(r);
+fn texts_of(t: &Sheet, random: &mut Random) -> Vec<Case> {
+    let d = damaged(t.text(), random);
+    let line = random.below(12) as u64;
+    let mut short = read_case(t.text(), random);
+    let i = 1 + random.below(3);
+    let kept = random.below(short.buffers[i].len());
+    short.buffers[i].truncate(kept);
+    let mut all = vec![read_case(t.text(), random), short, case(REFUSED_LINE, vec![line], vec![d.clone(), vec![7; d.len() + 3]])];
+    all.push(read_case(d, random));
+    let write = write_case(t, random);
+    all.push(spoiled(write.clone(), random));
+    all.push(write);
+    all
+}
+
+// ---- tables
+
+fn counts(t: &Sheet) -> Vec<u64> {
+    vec![t.s as u64, t.o as u64, t.r as u64]
+}
+
+// A call on the tables of a sheet, with more numbers and more buffers.
+fn on_tables(call: u8, t: &Sheet, numbers: Vec<u64>, buffers: Vec<Vec<u8>>, random: &mut Random) -> Case {
+    let tables = vec![lent(&t.assignment, ASSIGNMENT, random), lent(&t.permission, PERMISSION, random)];
+    case(call, [counts(t), numbers].concat(), [tables, buffers].concat())
+}
+
+fn write_case(t: &Sheet, random: &mut Random) -> Case {
+    let buffers = vec![lent(&t.pairs(), SEPARATIONS, random), buffer(TEXT, random)];
+    on_tables(WRITE, t, vec![t.separations.len() as u64], buffers, random)
+}
+
+fn fill_case(t: &Sheet, random: &mut Random) -> Case {
+    let flow = buffer(FLOW, random);
+    on_tables(FILL, t, vec![], vec![flow], random)
+}
+
+fn chain_case(t: &Sheet, x: usize, y: usize, random: &mut Random) -> Case {
+    let chain = buffer(CHAIN, random);
+    on_tables(SHOWN_CHAIN, t, vec![x as u64, y as u64], vec![chain], random)
+}
+
+// One byte changed: the call, and the sheet that it should leave.
+fn change_case(t: &Sheet, random: &mut Random) -> (Case, Sheet) {
+    let mut after = t.clone();
+    let assigns = random.one_in(2);
+    let (rows, columns, values) = if assigns { (t.s, t.r, 2) } else { (t.r, t.o, 4) };
+    let (i, j, value) = (random.below(rows), random.below(columns), random.below(values));
+    if i < rows && j < columns {
+        let table = if assigns { &mut after.assignment } else { &mut after.permission };
+        table[i * columns + j] = value as u8;
     }
+    let call = if assigns { SET_ASSIGNMENT } else { SET_PERMISSION };
+    (on_tables(call, t, [i, j, value].map(|n| n as u64).to_vec(), vec![], random), after)
+}
+
+// One thing wrong with the numbers, the lengths or the bytes of a case, or nothing where the change happens to be sound.
+fn spoiled(mut c: Case, random: &mut Random) -> Case {
+    let used = c.buffers.iter().filter(|b| !b.is_empty()).count();
+    let i = random.below(used);
+    match random.below(6) {
+        0 => {
+            let kept = random.below(c.buffers[i].len() + 1);
+            c.buffers[i].truncate(kept);
+        }
+        1 | 2 => {
+            let wrong = [49, 65, 113, 112, 0, 1 << 32, 1 << 63, u64::MAX, 1 + c.numbers[3]];
+            c.numbers[random.below(6)] = wrong[random.below(wrong.len())];
+        }
+        3 => {
+            let b = &mut c.buffers[2.min(used - 1)];
+            let front = b.len().min(120);
+            if front > 0 {
+                b.swap(random.below(front), random.below(front));
+            }
+        }
+        _ => {
+            let front = c.buffers[i].len().min(1 + random.below(60));
+            if front > 0 {
+                c.buffers[i][random.below(front)] = random.next() as u8;
+            }
+        }
+    }
+    c
+}
+
+// ---- flow tables
+
+fn questions(n: usize, table: &[u8], random: &mut Random) -> Vec<Case> {
+    let (x, y) = (random.below(n) as u64, random.below(n) as u64);
+    let numbers = vec![n as u64, x, y];
+    let mut all: Vec<Case> = [FLOWS, CLASS_NAME, COMPARE, GREATEST].map(|call| case(call, numbers.clone(), vec![table.to_vec()])).to_vec();
+    all.push(case(LABEL_OF, numbers, vec![table.to_vec(), buffer(LABEL, random)]));
+    all
+}
+
+// A table that no filling wrote: 1 on the diagonal and any bits elsewhere.
+fn any_table(n: usize, random: &mut Random) -> Vec<u8> {
+    let rare = 1 + random.below(5);
+    (0..n * n).map(|k| (k / n == k % n || random.one_in(rare)) as u8).collect()
+}
+
+fn effect_case(n: usize, before: &[u8], after: &[u8], random: &mut Random) -> Case {
+    case(EFFECT_OF, vec![n as u64], vec![lent(before, FLOW, random), lent(after, FLOW, random), buffer(EFFECT, random)])
+}
+
+fn row_case(n: usize, before: &[u8], after: &[u8], random: &mut Random) -> Case {
+    let numbers = vec![n as u64, random.below(3) as u64, random.below(n + 1) as u64];
+    case(CHOSEN_ROW, numbers, vec![lent(before, FLOW, random), lent(after, FLOW, random), vec![9; 130]])
+}
+
+// ---- all calls on a sheet
+
+fn calls_on(t: &Sheet, pairs: usize, random: &mut Random) -> Vec<Case> {
+    let n = t.n();
+    let (change, changed) = change_case(t, random);
+    let (before, after) = (t.flow_bytes(), changed.flow_bytes());
+    let mut all = vec![fill_case(t, random), change, effect_case(n, &before, &after, random), row_case(n, &before, &after, random)];
+    for table in [before, any_table(n, random)] {
+        all.extend(questions(n, &lent(&table, FLOW, random), random));
+    }
+    let one_wrong: Vec<Case> = all.iter().map(|c| spoiled(c.clone(), random)).collect();
+    all.extend(one_wrong);
+    for i in 0..pairs {
+        let c = chain_case(t, random.below(n), random.below(n), random);
+        if i % 4 == 0 {
+            all.push(spoiled(c.clone(), random));
+        }
+        all.push(c);
+    }
+    all.extend(texts_of(t, random));
+    all
+}
+
+// Sheets made for one sentence of document 01 each.
+fn made_sheets() -> Vec<Sheet> {
+    // the only chain, from object 0 to object 1, needs two roles of one subject
+    let mut two_roles = Sheet::blank(1, 2, 2);
+    two_roles.assignment = vec![1, 1];
+    two_roles.permission = vec![1, 0, 0, 2];
+    // a role that no subject has makes no channel
+    let mut nobodys = Sheet::blank(2, 1, 1);
+    nobodys.permission = vec![3];
+    let mut all = vec![two_roles, nobodys, largest()];
+    for (s, o, r) in [(0, 0, 0), (0, 3, 2), (3, 0, 2), (3, 3, 0), (48, 0, 48), (0, 64, 48), (48, 64, 0), (48, 64, 48)] {
+        all.push(Sheet::blank(s, o, r));
+    }
+    all
+}
+
+// A mode changed from 1 to 2 takes data away and brings other data: some label both gains and loses.
+fn gains_and_loses(random: &mut Random) -> Vec<Case> {
+    let mut t = Sheet::blank(2, 1, 2);
+    t.assignment = vec![1, 0, 0, 1];
+    t.permission = vec![1, 3];
+    let mut after = t.clone();
+    after.permission[0] = 2;
+    let c = effect_case(3, &t.flow_bytes(), &after.flow_bytes(), random);
+    let effects = &c.expected().buffers[2][..3];
+    assert!(effects.contains(&1) && effects.contains(&2), "{effects:?}");
+    vec![on_tables(SET_PERMISSION, &t, vec![0, 0, 2], vec![], random), c]
+}
+
+fn random_cases(seed: u64, count: usize) -> Vec<Case> {
+    let mut random = Random(seed | 1);
+    let r = &mut random;
+    let mut all = gains_and_loses(r);
+    for t in made_sheets() {
+        all.extend(calls_on(&t, 12, r));
+    }
+    for _ in 0..count {
+        let t = small(r);
+        all.extend(calls_on(&t, 12, r));
+    }
+    for _ in 0..count / 20 {
+        let t = full(r);
+        all.extend(calls_on(&t, 140, r));
+        let t = long_chain(&shuffled(48, r), &shuffled(64, r));
+        all.extend(calls_on(&t, 140, r));
+    }
+    let straight: Vec<usize> = (0..64).collect();
+    let t = long_chain(&straight[..48], &straight);
+    assert_eq!(t.chain(48, 96).unwrap().len(), 97);
+    all.push(chain_case(&t, 48, 96, r));
+    all.push(fill_case(&t, r));
     all.push(case(REFUSED_LINE, vec![u64::MAX], vec![b"ab\nc".to_vec(), vec![7; 9]]));
     all.push(case(REFUSED_LINE, vec![1], vec![vec![], vec![7; 9]]));
     all
 }
 
-// Runs all cases through `drive`, and says for each whether it answered as it should.
-fn run(drive: &str, all: &[Case], expected: &[Answer]) -> usize {
+// ---- the run
+
+// Runs all cases through `drive`, and counts those that it does not answer as it should.
+fn failures(drive: &str, all: &[Case]) -> usize {
     let mut child = Command::new(drive).stdin(Stdio::piped()).stdout(Stdio::piped()).spawn().expect("drive");
     let mut input = child.stdin.take().unwrap();
-    let lines: Vec<Vec<u8>> = all.iter().map(|c| c.line()).collect();
-    let writer = std::thread::spawn(move || lines.iter().all(|l| input.write_all(l).is_ok()));
     let mut output = BufReader::new(child.stdout.take().unwrap());
-    let mut failed = 0;
-    for (c, e) in all.iter().zip(expected) {
-        let mut text = String::new();
-        output.read_line(&mut text).expect("an answer");
-        let got = answer(c, &text);
-        if got.as_ref() != Some(e) {
-            failed += 1;
-            if failed <= 5 {
-                let numbers = got.map(|g| g.numbers);
-                println!("call {} numbers {:?} lengths {:?}: should answer {:?}, answered {:?}", c.call, c.numbers, c.buffers.each_ref().map(|b| b.len()), e.numbers, numbers);
+    std::thread::scope(|scope| {
+        scope.spawn(move || all.iter().all(|c| input.write_all(&c.line()).is_ok()));
+        let mut failed = 0;
+        for c in all {
+            let mut text = vec![];
+            output.read_until(b'\n', &mut text).expect("an answer");
+            let (got, should) = (answer(c, &text), c.expected());
+            if got.as_ref() != Some(&should) {
+                failed += 1;
+                if failed <= 5 {
+                    let lengths = c.buffers.each_ref().map(|b| b.len());
+                    println!("call {} numbers {:?} lengths {lengths:?}: should answer {:?}, answered {:?}", c.call, c.numbers, should.numbers, got.map(|g| g.numbers));
+                }
             }
         }
-    }
-    assert!(writer.join().unwrap(), "drive stopped early");
-    failed
+        failed
+    })
 }
 
 fn main() {
@@ -228,19 +281,18 @@ fn main() {
     let count = words.get(4).map_or(400, |w| w.parse().unwrap());
     let mut random = Random(seed | 1);
     let mut all = vec![];
-    let mut expected: Vec<Answer> = vec![];
     for (number, at, text) in listed(&words[2]).into_iter().chain(long_texts()) {
         let c = read_case(text, &mut random);
         let e = c.expected();
         assert_eq!((e.numbers[0], e.numbers[1]), (number as u64, at as u64), "the listed answer of {:?}", String::from_utf8_lossy(&c.buffers[0]));
         all.push(c);
-        expected.push(e);
     }
-    for c in cases(seed, count) {
-        expected.push(c.expected());
-        all.push(c);
+    all.extend(random_cases(seed, count));
+    for call in 1..=SHOWN_CHAIN {
+        let (accepted, cases) = all.iter().filter(|c| c.call == call).fold((0, 0), |(a, n), c| (a + (c.expected().numbers[0] == 0) as usize, n + 1));
+        println!("call {call}: {cases} cases, {accepted} with answer 0");
     }
-    let failed = run(&words[1], &all, &expected);
+    let failed = failures(&words[1], &all);
     println!("{} passed, {} failed", all.len() - failed, failed);
     std::process::exit((failed > 0) as i32);
 }
