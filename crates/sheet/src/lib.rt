@@ -88,11 +88,10 @@ const LEAST_SEPARATIONS: usize = 128;
 
 const LEAST_TEXT: usize = 44240;
 
-// A refusal, with nothing to tell.
-fn refused(answer: u8) -> answers::Told
-    ensures { λ r. ⌜ r ≡ told answer 0 ⌝ }
+fn tell(answer: u8, value: usize) -> answers::Told
+    ensures { λ r. ⌜ r ≡ told answer value ⌝ }
 {
-    answers::Told { answer, value: 0 }
+    answers::Told { answer, value }
 }
 
 // Writes the one text of the sheet in the tables at the start of `text`: the answer, and the text's length.
@@ -112,18 +111,15 @@ pub fn write(
     );
     let shared = answers::sheet_refusal(short, false, counts, assignment, permission);
     if shared != 0 {
-        return refused(shared);
+        return tell(shared, 0);
     }
     let entities = counts.subjects + counts.objects;
     let own = answers::separation_refusal(entities, count, separations);
     if own != 0 {
-        return refused(own);
+        return tell(own, 0);
     }
     let size = scribe::write_tables(counts, assignment, permission, count, separations, text);
-    answers::Told {
-        answer: 0,
-        value: size,
-    }
+    tell(0, size)
 }
 
 // The line of a number, counted from 1, without its line feed: a part of the caller's own text. An unfinished last line counts.

@@ -34,11 +34,11 @@ either-requires c κs = search needs
 sheet-refusal-requires : tie.Need-sheet-refusal-requires
 sheet-refusal-requires c κs = search needs
 
-refused-requires : tie.Need-refused-requires
-refused-requires c κs = search needs
+tell-requires : tie.Need-tell-requires
+tell-requires c κs = search needs
 
 returns : tie.Need-returns
-returns c = rw (c .refused .ensures) (refused-by-tables (tables (c .before .before .before .before .before .before .before .before)) _ _ _ _ (by-tables (c .before .before)) (c .before .if1 .taken))
+returns c = rw (c .tell .ensures) (refused-by-tables (tables (c .before .before .before .before .before .before .before .before)) _ _ _ _ (by-tables (c .before .before)) (c .before .if1 .taken))
 
 add-entities : tie.Need-add-entities
 add-entities c =
@@ -48,20 +48,25 @@ add-entities c =
 separation-refusal-requires : tie.Need-separation-refusal-requires
 separation-refusal-requires c κs = passed (c .before) .separations-long
 
-refused-requires-2 : tie.Need-refused-requires-2
-refused-requires-2 c κs = search needs
+tell-requires-2 : tie.Need-tell-requires-2
+tell-requires-2 c κs = search needs
 
 returns-2 : tie.Need-returns-2
-returns-2 c = rw (c .refused2 .ensures) (refused-by-pairs (tables (c .before .before .before .before .before .before .before .before .before .before .before)) _ _ _ _ (none-of-tables (c .before .before .before .before)) (c .before .before .separation-refusal .ensures) (c .before .if2 .taken))
+returns-2 c = rw (c .tell2 .ensures) (refused-by-pairs (tables (c .before .before .before .before .before .before .before .before .before .before .before)) _ _ _ _ (none-of-tables (c .before .before .before .before)) (c .before .before .separation-refusal .ensures) (c .before .if2 .taken))
 
 write-tables-requires : tie.Need-write-tables-requires
 write-tables-requires c κs = past-all _ _ _ _ (none-of-tables (c .before .before .before .before)) (sym (c .before .before .separation-refusal .ensures) ∙ c .before .if2 .left)
+
+tell-requires-3 : tie.Need-tell-requires-3
+tell-requires-3 c κs = search needs
 
 same-length : tie.Need-same-length
 same-length c = search needs
 
 returns-3 : tie.Need-returns-3
-returns-3 c = wrote (tables (c .before .before .before .before .before .before .before .before .before .before .before .before .before .before)) _ _ _ _ _ (none-of-tables (c .before .before .before .before .before .before .before)) (sym (c .before .before .before .before .before .separation-refusal .ensures) ∙ c .before .before .before .before .if2 .left) (c .before .before .write-tables .ensures)
+returns-3 c =
+    rw (c .tell3 .ensures)
+    (wrote (tables (c .before .before .before .before .before .before .before .before .before .before .before .before .before .before .before)) _ _ _ _ _ (none-of-tables (c .before .before .before .before .before .before .before .before)) (sym (c .before .before .before .before .before .before .separation-refusal .ensures) ∙ c .before .before .before .before .before .if2 .left) (c .before .before .before .write-tables .ensures))
 
 pub write-spec : {M : Type 1} → statement M
-write-spec = tie.close (tie.spec either-requires sheet-refusal-requires refused-requires returns add-entities separation-refusal-requires refused-requires-2 returns-2 write-tables-requires same-length returns-3)
+write-spec = tie.close (tie.spec either-requires sheet-refusal-requires tell-requires returns add-entities separation-refusal-requires tell-requires-2 returns-2 write-tables-requires tell-requires-3 same-length returns-3)
