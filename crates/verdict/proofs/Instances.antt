@@ -94,9 +94,8 @@ small = judged-small tables 1 separations before call
 stays-1 : {y : ℕ} → Flow (Channel (sheetIn tables)) 1 y → y ≡ 1
 stays-1 f = flow-closed (λ z. z ≡ 1) refl (λ a b e c. absurd (nothing-from-1 c e)) (flow-more hop-of 1 _ f)
 
-filled : FlowTable 2 (Channel (sheetIn tables)) (5 ∷ 5 ∷ 5 ∷ 5 ∷ 5 ∷ []) (1 ∷ 1 ∷ 0 ∷ 1 ∷ 5 ∷ [])
-unfolding over
-filled = record { table = 1 ∷ 1 ∷ 0 ∷ 1 ∷ []; marked = record { size = refl; bytes = byte }; written = refl }
+pub filled : (buffer : List ℕ) → FlowTable 2 (Channel (sheetIn tables)) buffer (over (1 ∷ 1 ∷ 0 ∷ 1 ∷ []) buffer)
+filled buffer = record { table = 1 ∷ 1 ∷ 0 ∷ 1 ∷ []; marked = record { size = refl; bytes = byte }; written = refl }
   where
     byte : (x y : ℕ) → x < 2 → y < 2 → Mark (Flow (Channel (sheetIn tables)) x y) (at (1 ∷ 1 ∷ 0 ∷ 1 ∷ []) 2 x y)
     byte zero zero hx hy = one refl here
@@ -108,5 +107,5 @@ filled = record { table = 1 ∷ 1 ∷ 0 ∷ 1 ∷ []; marked = record { size = r
     byte (suc (suc x)) y hx hy = absurd (omega arith)
 
 by-table : (judged 14 0 2 .answer ≡ 14) × (judged 14 0 2 .position ≡ 0)
-unfolding tables separations
-by-table = table-answered tables 1 separations before _ _ call filled accepted 0 (lit< tt) refl (λ k h. absurd (omega arith))
+unfolding tables separations over
+by-table = table-answered tables 1 separations before _ _ call (filled []) accepted 0 (lit< tt) refl (λ k h. absurd (omega arith))
