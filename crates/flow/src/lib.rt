@@ -138,26 +138,27 @@ fn close_channels(
 
 // Writes the flow table of a sheet: the byte at x * N + y is 1 if x flows to y, and 0 if not. Refuses with 1, 5 and 11, in this order,
 // and then changes nothing.
-pub fn fill(
-    subjects: usize,
-    objects: usize,
-    roles: usize,
-    assignment: &[u8],
-    permission: &[u8],
-    flow: &mut [u8],
-) -> u8
-    ensures { λ r. ⌜ Fills (lent (counts subjects objects roles) (now (assignment .entry)) (now (permission .entry))) (now (flow .entry)) (r, now (flow .exit)) ⌝ }
+pub fn fill(counts: answers::Counts, assignment: &[u8], permission: &[u8], flow: &mut [u8]) -> u8
+    ensures { λ r. ⌜ Fills (lent counts (now (assignment .entry)) (now (permission .entry))) (now (flow .entry)) (r, now (flow .exit)) ⌝ }
 {
-    let c = answers::Counts {
-        subjects,
-        objects,
-        roles,
-    };
-    let refusal = answers::sheet_refusal(flow.len() < LEAST_FLOW, false, c, assignment, permission);
+    let refusal = answers::sheet_refusal(
+        flow.len() < LEAST_FLOW,
+        false,
+        counts,
+        assignment,
+        permission,
+    );
     if refusal != 0 {
         return refusal;
     }
-    close_channels(subjects, objects, roles, assignment, permission, flow);
+    close_channels(
+        counts.subjects,
+        counts.objects,
+        counts.roles,
+        assignment,
+        permission,
+        flow,
+    );
     0
 }
 

@@ -1,2 +1,3 @@
--- What C is handed.
+-- What C is handed. Read in this order.
 pub mod Packed
+pub mod ForC

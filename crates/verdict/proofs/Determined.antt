@@ -11,7 +11,7 @@ use Rattle.answers.proofs.Calls.{determined}
 use Rattle.theory.proofs.Chains.{chain-flow, one-best}
 use Rattle.verdict.specs.declared.Judged.{Judged}
 use Rattle.verdict.specs.Shown.{Shown, shown, missing, Shows}
-use Rattle.verdict.specs.Judge.{judged, Verdict, hold, broken, Judges}
+use Rattle.verdict.specs.Judge.{Verdict, hold, broken, Judges}
 use Rattle.verdict.proofs.Verdicts.{one-finding, not-both}
 
 pub one-shown : {ch : ℕ → ℕ → Type 0} {x y : ℕ} {before : List ℕ} {r₁ r₂ : Told × List ℕ} → Shown ch x y before r₁ → Shown ch x y before r₂ → r₁ ≡ r₂

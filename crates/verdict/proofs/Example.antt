@@ -1,21 +1,17 @@
 -- Channels 0 to 1 and 1 to 2 among four entities: what is shown, and which separation is the first broken one.
 use Prim.Native.Nat.{ℕ, zero, suc, _≤_, _<_}
-use mathlib.Core.Path.{_≡_, refl}
+use mathlib.Core.Path.{refl}
 use mathlib.Core.List.{List, [], _∷_}
 use native.Mathlib.Omega.{arith}
 use lib.Dec.{lit<}
-use lib.ListN.{length}
-use Rattle.answers.specs.declared.Told.{Told}
 use Rattle.answers.specs.Call.{told}
 use Rattle.answers.specs.Rows.{over}
 use Rattle.answers.specs.Sheet.{from, to}
 use Rattle.theory.specs.Flow.{Flow, here, step}
-use Rattle.theory.specs.Chain.{Chain, alone, link, NotAfter, ended, equal, Best}
 use Rattle.theory.proofs.Flows.{flow-closed}
 use Rattle.theory.proofs.Chains.{best-alone}
-use Rattle.verdict.specs.declared.Judged.{Judged}
 use Rattle.verdict.specs.Shown.{Shown, shown, missing}
-use Rattle.verdict.specs.Judge.{FirstBroken, AllHold, judged, Verdict, hold, broken}
+use Rattle.verdict.specs.Judge.{AllHold, judged, Verdict, hold, broken}
 
 data Hop : ℕ → ℕ → Type 0 where
   hop01 : Hop 0 1

@@ -1,23 +1,23 @@
 -- The ends of `chain`, return by return.
 use Prim.Native.Nat.{ℕ, _≤_, _<_}
-use mathlib.Core.Path.{_≡_, refl, sym, ap, _∙_}
+use mathlib.Core.Path.{_≡_, refl, sym, _∙_}
 use mathlib.Core.Logic.{_≢_}
 use mathlib.Core.Bool.{Bool, false}
 use mathlib.Core.List.{List, [], _∷_}
 use native.Mathlib.Omega.{arith}
 use borrow.Author.Tests.{ltb-false, leb-false, le-leb, lt-leb}
 use lib.Dec.{leb}
-use lib.ListN.{length}
 use mir.Syntax.{w64}
 use mir.Val.{Fits}
 use Rattle.answers.specs.declared.Told.{Told}
 use Rattle.answers.specs.Call.{Refusal, _if_, _then_, firstRefusal, told}
 use Rattle.answers.specs.Rows.{Bytes, shorter}
 use Rattle.answers.specs.Sizes.{leastChain}
-use Rattle.answers.specs.Sheet.{Lent, sheetIn, sheetOf, entities}
+use Rattle.answers.specs.Sheet.{Lent, sheetIn, entities}
 use Rattle.answers.specs.Refusals.{sheetRefusals}
 use Rattle.answers.proofs.Calls.{passed, by-first, by-second, passed-then, refuse, accept}
 use Rattle.answers.proofs.Accepted.{sheet-numbered, tables-passed}
+use Rattle.theory.proofs.Flows.{Has}
 use Rattle.theory.proofs.Chains.{chain-long}
 use Rattle.graph.specs.Written.{ShownChain, shown as written, missing as none}
 use Rattle.graph.proofs.Relations.{bytes-to, bytes-from, chain-agrees}
@@ -32,13 +32,17 @@ pub sum-fits : (short : Bool) (l : Lent) → firstRefusal (sheetRefusals short f
 sum-fits short l e = let s = tables-passed short false l e .sized in omega (arith, s .subjects, s .objects)
 
 -- ---- what is refused
+-- what the first of two lists refuses is refused by both
+pub refused-first : (first second : List Refusal) (n : ℕ) → n ≡ firstRefusal first → n ≢ 0 → n ≡ firstRefusal (first then second)
+refused-first first second n e some = e ∙ sym (by-first first second (λ none. some (e ∙ none)))
+
 module _ (l : Lent) (x y : ℕ) (chain : List ℕ) where
   abbrev tables : List Refusal
   tables = sheetRefusals (shorter chain leastChain) false l
 
   pub by-tables : (n : ℕ) → n ≡ firstRefusal tables → n ≢ 0 → n ≡ firstRefusal (chainRefusals l x y chain)
   unfolding chainRefusals
-  by-tables n e some = e ∙ sym (by-first tables _ (λ z. some (e ∙ z)))
+  by-tables n e some = refused-first tables _ n e some
 
   module _ (passes : firstRefusal tables ≡ 0) where
     by-entities : firstRefusal (chainRefusals l x y chain) ≡ firstRefusal ((10 if leb (entities (l .counts)) x) ∷ (10 if leb (entities (l .counts)) y) ∷ [])
@@ -67,11 +71,17 @@ module _ (l : Lent) (x y : ℕ) (chain : List ℕ) where
       record { sized = t .sized; first = leb-false _ _ (a .0); last = leb-false _ _ (b .0); room = ltb-false _ _ (t .not-short) }
 
 -- ---- what is shown
-pub of-sheet : (l : Lent) (scratch channels before after : List ℕ) (x y count : ℕ) → Filled (entities (l .counts)) (Channel (sheetIn l)) scratch channels →
-    ShownChain (Bytes (entities (l .counts)) channels) x y before after count → ShownChain (Channel (sheetIn l)) x y before after count
-unfolding sheetOf
-of-sheet l scratch channels before after x y count f s =
-    chain-agrees (bytes-to (f .marked) scratch (f .written)) (bytes-from (f .marked) scratch (f .written) (sheet-inside l)) s
+-- a channel table that was filled for a sheet has the pairs of the sheet's channels
+module _ (l : Lent) (scratch channels : List ℕ) (f : Filled (entities (l .counts)) (Channel (sheetIn l)) scratch channels) where
+  pub sheet-has : Has (Channel (sheetIn l)) (Bytes (entities (l .counts)) channels)
+  sheet-has = bytes-to (f .marked) scratch (f .written)
+
+  pub table-has : Has (Bytes (entities (l .counts)) channels) (Channel (sheetIn l))
+  table-has = bytes-from (f .marked) scratch (f .written) (sheet-inside l)
+
+  pub of-sheet : (before after : List ℕ) (x y count : ℕ) → ShownChain (Bytes (entities (l .counts)) channels) x y before after count →
+      ShownChain (Channel (sheetIn l)) x y before after count
+  of-sheet before after x y count s = chain-agrees sheet-has table-has s
 
 module _ {ch : ℕ → ℕ → Type 0} {x y count : ℕ} {before after : List ℕ} where
   pub shown-some : ShownChain ch x y before after count → count ≢ 0 → Shown ch x y before (told 0 count, after)

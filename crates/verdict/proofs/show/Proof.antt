@@ -27,7 +27,8 @@ show-chain-requires : tie.Need-show-chain-requires
 show-chain-requires c κs =
     let e = c .before .before .before .before .before .before .before .before .before in
     let fits = entities-fit (of e) (e .pre .sized) in
-    (fits, filled-room (c .before .before .before .fill-channels .ensures), e .pre .first, e .pre .last, omega arith)
+    let room = filled-room (c .before .before .before .fill-channels .ensures) in
+    (fits, room, omega arith, omega arith, omega arith)
 
 same-length : tie.Need-same-length
 same-length c = search needs
@@ -35,7 +36,7 @@ same-length c = search needs
 returns : tie.Need-returns
 returns c =
     let e = c .before .before .before .before .before .before .before .before .before .before .before .before in
-    of-sheet (of e) _ _ _ _ _ _ _ (c .before .before .before .before .before .before .fill-channels .ensures) (c .before .before .show-chain .ensures)
+    of-sheet (of e) _ _ (c .before .before .before .before .before .before .fill-channels .ensures) _ _ _ _ _ (c .before .before .show-chain .ensures)
 
 pub show-spec : {M : Type 1} → statement M
 show-spec =

@@ -1,0 +1,126 @@
+-- Demand 2, of the call: what any result tells that the contract of `judge` allows.
+use Prim.Native.Nat.{ℕ, _<_}
+use mathlib.Core.Path.{_≡_, sym, ap, _∙_}
+use mathlib.Core.Logic.{_≢_}
+use mathlib.Core.List.{List}
+use native.Mathlib.Decide.{ℕ-discrete}
+use native.Mathlib.Omega.{arith}
+use lib.ListN.{length}
+use Rattle.answers.specs.Call.{firstRefusal}
+use Rattle.answers.specs.Rows.{at, Mark, over}
+use Rattle.answers.specs.Sheet.{Lent, Sheet, sheetIn, sheetOf, entities, from, to}
+use Rattle.answers.specs.Inner.{Listed}
+use Rattle.answers.proofs.Marks.{mark-of, marked-yes}
+use Rattle.answers.proofs.Tables.{at-over}
+use Rattle.theory.specs.Chain.{Best}
+use Rattle.graph.specs.Written.{FlowTable}
+use Rattle.access.specs.Channel.{Channel}
+use Rattle.verdict.specs.declared.Judged.{Judged}
+use Rattle.verdict.specs.Judge.{Broken, FirstBroken, AllHold, Verdict, hold, broken, judgeRefusals, Judges}
+use Rattle.verdict.proofs.Verdicts.{one-first}
+use Rattle.verdict.proofs.Bounds.{refusal-low}
+use Rattle.verdict.proofs.Judging.{judgeable}
+
+-- the told position is that of the first broken separation, and the buffer begins with its chain, the shortest and of those the
+-- smallest
+pub record Finding (ch : ℕ → ℕ → Type 0) (count : ℕ) (separations before : List ℕ) (j : Judged) (after : List ℕ) : Type 0 where
+  pub first : FirstBroken ch count separations (j .position)
+  pub chain : List ℕ
+  pub best : Best ch (from separations (j .position)) (to separations (j .position)) chain
+  pub counted : j .count ≡ length chain
+  pub written : after ≡ over chain before
+
+-- ---- by the verdict
+module _ {ch : ℕ → ℕ → Type 0} {count : ℕ} {separations before : List ℕ} {j : Judged} {after : List ℕ} where
+  told-finding : Verdict ch count separations before (j, after) → j .answer ≡ 14 → Finding ch count separations before j after
+  told-finding (hold all e) q = let z = ap (λ (r : Judged × List ℕ). r .0 .answer) e in absurd (omega arith)
+  told-finding (broken i l p b e) q =
+      let here : j .position ≡ i = ap (λ (r : Judged × List ℕ). r .0 .position) e in
+      record {
+        first = rw here p;
+        chain = l;
+        best = rw here b;
+        counted = ap (λ (r : Judged × List ℕ). r .0 .count) e;
+        written = ap (λ (r : Judged × List ℕ). r .1) e;
+      }
+
+  told-holding : Verdict ch count separations before (j, after) → j .answer ≡ 0 → AllHold ch count separations × (after ≡ before)
+  told-holding (hold all e) q = (all, ap (λ (r : Judged × List ℕ). r .1) e)
+  told-holding (broken i l p b e) q = let z = ap (λ (r : Judged × List ℕ). r .0 .answer) e in absurd (omega arith)
+
+  tells-broken : Verdict ch count separations before (j, after) → (i : ℕ) → i < count → Broken ch separations i → j .answer ≡ 14
+  tells-broken (hold all e) i h b = absurd (all i h b)
+  tells-broken (broken k l p c e) i h b = ap (λ (r : Judged × List ℕ). r .0 .answer) e
+
+  tells-holding : Verdict ch count separations before (j, after) → AllHold ch count separations → j .answer ≡ 0
+  tells-holding (hold all e) a = ap (λ (r : Judged × List ℕ). r .0 .answer) e
+  tells-holding (broken i l p b e) a = absurd (a i (p .below) (p .broken))
+
+-- ---- a flow table that was filled for the channels says which separations are broken
+pub table-marks : {n : ℕ} {ch : ℕ → ℕ → Type 0} {buffer table : List ℕ} → FlowTable n ch buffer table → (count : ℕ) (separations : List ℕ) →
+    Listed n count separations → (i : ℕ) → i < count → Mark (Broken ch separations i) (at table n (from separations i) (to separations i))
+table-marks {buffer = buffer} f count separations listed i h =
+    let b = listed .below i h in
+    rw (f .written, at-over (f .table) buffer (f .marked .size) (b .0) (b .1)) (f .marked .bytes _ _ (b .0) (b .1))
+
+-- ---- by the call
+module _ (l : Lent) (count : ℕ) (separations before : List ℕ) (j : Judged) (after : List ℕ) (call : Judges l count separations before (j, after)) where
+  -- the sheet that is judged
+  abbrev judgedSheet : Sheet
+  judgedSheet = sheetOf l count separations
+
+  unless-refused : (firstRefusal (judgeRefusals l count separations before) ≢ 0 → j .answer ≡ firstRefusal (judgeRefusals l count separations before) → ⊥) →
+      firstRefusal (judgeRefusals l count separations before) ≡ 0
+  unless-refused never = go (ℕ-discrete (firstRefusal (judgeRefusals l count separations before)) 0)
+    where
+      go : Dec (firstRefusal (judgeRefusals l count separations before) ≡ 0) → firstRefusal (judgeRefusals l count separations before) ≡ 0
+      go (yes e) = e
+      go (no some) = absurd (never some (ap (λ (r : Judged × List ℕ). r .0 .answer) (call .refusal some)))
+
+  -- 14 and 0 are no refusals
+  pub accepted-14 : j .answer ≡ 14 → firstRefusal (judgeRefusals l count separations before) ≡ 0
+  accepted-14 q = unless-refused (λ some e. omega (arith, refusal-low l count separations before))
+
+  pub accepted-0 : j .answer ≡ 0 → firstRefusal (judgeRefusals l count separations before) ≡ 0
+  accepted-0 q = unless-refused (λ some e. some (sym e ∙ q))
+
+  -- "The first broken one is answered by 14, its position from 0 and its chain"
+  pub finding : j .answer ≡ 14 → Finding (Channel judgedSheet) count separations before j after
+  finding q = told-finding (call .done (accepted-14 q)) q
+
+  pub holding : j .answer ≡ 0 → AllHold (Channel judgedSheet) count separations × (after ≡ before)
+  holding q = told-holding (call .done (accepted-0 q)) q
+
+  -- and the other way round, where nothing is refused
+  module _ (accepted : firstRefusal (judgeRefusals l count separations before) ≡ 0) where
+    pub broken-answered : (i : ℕ) → i < count → Broken (Channel judgedSheet) separations i → j .answer ≡ 14
+    broken-answered = tells-broken (call .done accepted)
+
+    pub holding-answered : AllHold (Channel judgedSheet) count separations → j .answer ≡ 0
+    holding-answered = tells-holding (call .done accepted)
+
+  -- judging agrees with the flow table of the sheet, by the byte of each separation
+  module _ {buffer table : List ℕ} (f : FlowTable (entities (l .counts)) (Channel (sheetIn l)) buffer table) where
+    abbrev byteOf : ℕ → ℕ
+    byteOf i = at table (entities (l .counts)) (from separations i) (to separations i)
+
+    sheet-marks : firstRefusal (judgeRefusals l count separations before) ≡ 0 → (i : ℕ) → i < count → Mark (Broken (Channel judgedSheet) separations i) (byteOf i)
+    unfolding sheetOf
+    sheet-marks accepted = table-marks f count separations (judgeable l count separations before accepted .listed)
+
+    pub finding-in-table : j .answer ≡ 14 → (byteOf (j .position) ≡ 1) × ((i : ℕ) → i < j .position → byteOf i ≡ 1 → ⊥)
+    finding-in-table q =
+        let p = finding q .first in
+        let m = sheet-marks (accepted-14 q) in
+        (mark-of (m (j .position) (p .below)) (p .broken), λ i h e. p .before i h (marked-yes (m i (omega (arith, p .below))) e))
+
+    pub holding-in-table : j .answer ≡ 0 → (i : ℕ) → i < count → byteOf i ≡ 1 → ⊥
+    holding-in-table q i h e = holding q .0 i h (marked-yes (sheet-marks (accepted-0 q) i h) e)
+
+    pub table-answered : firstRefusal (judgeRefusals l count separations before) ≡ 0 → (i : ℕ) → i < count → byteOf i ≡ 1 →
+        ((k : ℕ) → k < i → byteOf k ≡ 1 → ⊥) → (j .answer ≡ 14) × (j .position ≡ i)
+    table-answered accepted i h e before-it =
+        let m = sheet-marks accepted in
+        let b = marked-yes (m i h) e in
+        let q = broken-answered accepted i h b in
+        (q, one-first (finding q .first) (record { below = h; broken = b; before = λ k g c. before-it k g (mark-of (m k (omega arith)) c) }))
