@@ -29,6 +29,12 @@ pub const CHOSEN_ROW: u8 = 11;
 pub const SET_ASSIGNMENT: u8 = 12;
 pub const SET_PERMISSION: u8 = 13;
 pub const SHOWN_CHAIN: u8 = 14;
+pub const JUDGE: u8 = 15;
+pub const NEW_TALLY: u8 = 16;
+pub const REHEARSE: u8 = 17;
+pub const REHEARSE_RECORDS: u8 = 18;
+pub const REPORT: u8 = 19;
+pub const CALLS: std::ops::RangeInclusive<u8> = READ..=REPORT;
 
 fn six<T: Default>(given: Vec<T>) -> [T; 6] {
     let mut all = given;
@@ -87,6 +93,10 @@ impl Case {
             CHOSEN_ROW => self.chosen_row(),
             SET_ASSIGNMENT | SET_PERMISSION => self.change(),
             SHOWN_CHAIN => self.chain(),
+            JUDGE => self.judge(),
+            NEW_TALLY => (vec![0, 0, 0], vec![]),
+            REHEARSE | REHEARSE_RECORDS => self.rehearse(),
+            REPORT => self.report(),
             other => panic!("no call has the number {other}"),
         }
     }
@@ -216,6 +226,48 @@ impl Case {
             None => refused(13),
             Some(chain) => (vec![0, chain.len() as u64], vec![(2, chain)]),
         }
+    }
+
+    fn judge(&self) -> Outcome {
+        match self.tables().separated(self.buffers[3].len() < CHAIN, self.number(3), &self.buffers[2]) {
+            Err(number) => refused(number),
+            Ok(t) => match t.broken() {
+                None => (vec![0, 0, 0], vec![]),
+                Some((i, chain)) => (vec![14, i as u64, chain.len() as u64], vec![(3, chain)]),
+            },
+        }
+    }
+
+    fn rehearse(&self) -> Outcome {
+        let [.., transfers, marks, verdicts, _] = &self.buffers;
+        let tally = [3, 4, 5].map(|i| self.numbers[i] % (1 << 32));
+        let kept = |number: u8| (vec![number as u64, 0, tally[0], tally[1], tally[2]], vec![]);
+        let records = self.call == REHEARSE_RECORDS;
+        let whole = transfers.len() - transfers.len() % 3;
+        let long = if records { whole / 3 > 4096 } else { transfers.len() > 12288 };
+        let t = match self.tables().sheet(marks.len() / 4 < MARKS || verdicts.len() < VERDICTS, long) {
+            Err(number) => return kept(number),
+            Ok(t) => t,
+        };
+        if !records && whole != transfers.len() {
+            return kept(15);
+        }
+        if tally.iter().any(|&count| count > 4_294_963_199) {
+            return kept(17);
+        }
+        let before: Vec<u32> = marks.chunks_exact(4).map(|b| u32::from_be_bytes(b.try_into().unwrap())).collect();
+        let (after, written) = t.rehearsed(&transfers[..whole], &before);
+        let count = |v: u8| written.iter().filter(|&&b| b == v).count() as u64;
+        let numbers = vec![0, count(0), tally[0] + count(0), tally[1] + count(10), tally[2] + count(16)];
+        (numbers, vec![(3, after.iter().flat_map(|m| m.to_be_bytes()).collect()), (4, written)])
+    }
+
+    fn report(&self) -> Outcome {
+        if self.buffers[1].len() < OUTPUT {
+            return refused(1);
+        }
+        let output = output(&self.buffers[0]);
+        (vec![0, output.len() as u64], vec![(1, output)])
     }
 }
 

@@ -16,6 +16,11 @@ fn read_case(text: Vec<u8>, random: &mut Random) -> Case {
     case(READ, vec![], vec![text, buffer(ASSIGNMENT, random), buffer(PERMISSION, random), buffer(SEPARATIONS, random)])
 }
 
+fn report_case(text: Vec<u8>, random: &mut Random) -> Case {
+    let least = if random.one_in(8) { OUTPUT - 1 } else { OUTPUT };
+    case(REPORT, vec![], vec![text, buffer(least, random)])
+}
+
 // The texts that are written out in a file, with the number and the line that document 01 gives them.
 fn listed(path: &str) -> Vec<(u8, usize, Vec<u8>)> {
     let file = std::fs::read_to_string(path).expect("the listed texts");
@@ -67,6 +72,8 @@ fn texts_of(t: &Sheet, random: &mut Random) -> Vec<Case> {
     let kept = random.below(short.buffers[i].len());
     short.buffers[i].truncate(kept);
     let mut all = vec![read_case(t.text(), random), short, case(REFUSED_LINE, vec![line], vec![d.clone(), vec![7; d.len() + 3]])];
+    all.push(report_case(t.text(), random));
+    all.push(report_case(d.clone(), random));
     all.push(read_case(d, random));
     let write = write_case(t, random);
     all.push(spoiled(write.clone(), random));
@@ -99,6 +106,38 @@ fn fill_case(t: &Sheet, random: &mut Random) -> Case {
 fn chain_case(t: &Sheet, x: usize, y: usize, random: &mut Random) -> Case {
     let chain = buffer(CHAIN, random);
     on_tables(SHOWN_CHAIN, t, vec![x as u64, y as u64], vec![chain], random)
+}
+
+fn judge_case(t: &Sheet, random: &mut Random) -> Case {
+    let buffers = vec![lent(&t.pairs(), SEPARATIONS, random), buffer(CHAIN, random)];
+    on_tables(JUDGE, t, vec![t.separations.len() as u64], buffers, random)
+}
+
+// The same sheet with separations that hold, but for one now and then.
+fn mostly_held(t: &Sheet, random: &mut Random) -> Sheet {
+    let mut other = t.clone();
+    let flow = t.flow();
+    other.separations = some_pairs(t.n(), 64, random);
+    other.separations.retain(|&(x, y)| !flow[x as usize][y as usize] || random.one_in(40));
+    other
+}
+
+// ---- rehearsals
+
+// A transfer that is permitted now and then, or is out of range.
+fn transfer(t: &Sheet, random: &mut Random) -> [u8; 3] {
+    if random.one_in(12) {
+        return [random.next() as u8, random.next() as u8, random.below(5) as u8];
+    }
+    [random.below(t.s + 1) as u8, random.below(t.o + 1) as u8, 1 + random.below(2) as u8]
+}
+
+fn rehearsals(t: &Sheet, length: usize, random: &mut Random) -> Vec<Case> {
+    let transfers: Vec<u8> = (0..length).flat_map(|_| transfer(t, random)).collect();
+    let marks: Vec<u8> = (0..4 * MARKS).map(|_| random.next() as u8).collect();
+    let tally = [0, 0, 0].map(|_: u64| if random.one_in(3) { 4_294_963_190 + random.below(12) as u64 } else { random.below(1000) as u64 });
+    let buffers = vec![transfers, lent(&marks, 4 * MARKS + random.below(3) * 4, random), buffer(VERDICTS, random)];
+    [REHEARSE, REHEARSE_RECORDS].map(|call| on_tables(call, t, tally.to_vec(), buffers.clone(), random)).to_vec()
 }
 
 // One byte changed: the call, and the sheet that it should leave.
@@ -180,6 +219,12 @@ fn calls_on(t: &Sheet, pairs: usize, random: &mut Random) -> Vec<Case> {
     for table in [before, any_table(n, random)] {
         all.extend(questions(n, &lent(&table, FLOW, random), random));
     }
+    for _ in 0..3 {
+        all.push(judge_case(&mostly_held(t, random), random));
+    }
+    all.push(judge_case(t, random));
+    let length = random.below(40);
+    all.extend(rehearsals(t, length, random));
     let one_wrong: Vec<Case> = all.iter().map(|c| spoiled(c.clone(), random)).collect();
     all.extend(one_wrong);
     for i in 0..pairs {
@@ -222,10 +267,67 @@ fn gains_and_loses(random: &mut Random) -> Vec<Case> {
     vec![on_tables(SET_PERMISSION, &t, vec![0, 0, 2], vec![], random), c]
 }
 
+// The sizes at which a rehearsal just passes or is just refused.
+fn rehearsal_limits(random: &mut Random) -> Vec<Case> {
+    let mut t = Sheet::blank(1, 1, 1);
+    t.assignment = vec![1];
+    t.permission = vec![2];
+    let mut all = vec![];
+    for length in [0, 1, 4096, 4097] {
+        all.extend(rehearsals(&t, length, random));
+    }
+    for i in 0..3 {
+        for (count, answer) in [(4_294_963_199, 0), (4_294_963_200, 17), (4_294_967_295, 17)] {
+            for mut c in rehearsals(&t, 4096, random) {
+                c.numbers = [1, 1, 1, 0, 0, 0];
+                c.numbers[3 + i] = count;
+                assert_eq!(c.expected().numbers[0], answer);
+                all.push(c);
+            }
+        }
+    }
+    for extra in 1..3 {
+        let mut c = rehearsals(&t, 5, random).remove(0);
+        c.numbers = [1, 1, 1, u64::MAX, 0, 0];
+        c.buffers[2].resize(15 + extra, 0);
+        assert_eq!(c.expected().numbers[0], 15);
+        all.push(c);
+    }
+    all
+}
+
+// Points 10 to 13 of document 01, as it prints them.
+fn worked_points(random: &mut Random) -> Vec<Case> {
+    let sheet = read_text(b"01030304\n020000\n020101\n020202\n03000002\n03010001\n03010102\n03020201\n03030101\n03030202\n040004\n040402\n05000c\n").unwrap();
+    let forth = [0, 0, 2, 1, 0, 1, 1, 1, 2];
+    let back = [1, 1, 2, 1, 0, 1, 0, 0, 2];
+    let points: [(&[u8], [u32; 6], [u32; 6], u64); 4] = [
+        (&forth, [7, 0, 0, 0, 0, 0], [7, 7, 0, 7, 7, 0], 3),
+        (&back, [7, 0, 0, 0, 0, 0], [7, 0, 0, 7, 0, 0], 3),
+        (&[0, 0, 2], [4_294_967_295, 0, 0, 2, 0, 0], [4_294_967_295, 0, 0, 1, 0, 0], 1),
+        (&[0, 1, 2], [7, 0, 0, 0, 0, 0], [7, 0, 0, 0, 0, 0], 0),
+    ];
+    let bytes = |marks: [u32; 6]| marks.iter().flat_map(|m| m.to_be_bytes()).collect::<Vec<u8>>();
+    let mut all = vec![];
+    for (transfers, before, after, applied) in points {
+        for call in [REHEARSE, REHEARSE_RECORDS] {
+            let buffers = vec![transfers.to_vec(), lent(&bytes(before), 4 * MARKS, random), buffer(VERDICTS, random)];
+            let c = on_tables(call, &sheet, vec![0, 0, 0], buffers, random);
+            let e = c.expected();
+            assert_eq!((e.numbers[1], &e.buffers[3][..24]), (applied, &bytes(after)[..]));
+            all.push(c);
+        }
+    }
+    all
+}
+
 fn random_cases(seed: u64, count: usize) -> Vec<Case> {
     let mut random = Random(seed | 1);
     let r = &mut random;
     let mut all = gains_and_loses(r);
+    all.extend(rehearsal_limits(r));
+    all.extend(worked_points(r));
+    all.push(case(NEW_TALLY, vec![], vec![]));
     for t in made_sheets() {
         all.extend(calls_on(&t, 12, r));
     }
@@ -236,6 +338,8 @@ fn random_cases(seed: u64, count: usize) -> Vec<Case> {
     for _ in 0..count / 20 {
         let t = full(r);
         all.extend(calls_on(&t, 140, r));
+        let length = r.below(4100);
+        all.extend(rehearsals(&t, length, r));
         let t = long_chain(&shuffled(48, r), &shuffled(64, r));
         all.extend(calls_on(&t, 140, r));
     }
@@ -285,10 +389,12 @@ fn main() {
         let c = read_case(text, &mut random);
         let e = c.expected();
         assert_eq!((e.numbers[0], e.numbers[1]), (number as u64, at as u64), "the listed answer of {:?}", String::from_utf8_lossy(&c.buffers[0]));
+        all.push(report_case(c.buffers[0].clone(), &mut random));
         all.push(c);
     }
     all.extend(random_cases(seed, count));
-    for call in 1..=SHOWN_CHAIN {
+    all.retain(|c| c.call <= JUDGE);
+    for call in CALLS {
         let (accepted, cases) = all.iter().filter(|c| c.call == call).fold((0, 0), |(a, n), c| (a + (c.expected().numbers[0] == 0) as usize, n + 1));
         println!("call {call}: {cases} cases, {accepted} with answer 0");
     }

@@ -5,10 +5,14 @@ use answers::Counts;
 use answers::Told;
 
 fn two(first: usize, second: usize) -> Numbers {
+    three(first, second, 0)
+}
+
+fn three(first: usize, second: usize, third: usize) -> Numbers {
     Numbers {
         first: first as u64,
         second: second as u64,
-        third: 0,
+        third: third as u64,
         fourth: 0,
         fifth: 0,
         sixth: 0,
@@ -85,7 +89,7 @@ pub fn of_sheet(
 
 fn fill(head: &[u8], assignment: &[u8], permission: &[u8], flow: &mut [u8]) -> Numbers {
     let c = counts(head);
-    let answer = flow::fill(c.subjects, c.objects, c.roles, assignment, permission, flow);
+    let answer = flow::fill(c, assignment, permission, flow);
     two(answer as usize, 0)
 }
 
@@ -169,25 +173,39 @@ fn chain(head: &[u8], assignment: &[u8], permission: &[u8], chain: &mut [u8]) ->
     let c = counts(head);
     let x = form::argument(head, 3);
     let y = form::argument(head, 4);
-    told(verdict::chain(
-        c.subjects,
-        c.objects,
-        c.roles,
-        assignment,
-        permission,
-        x,
-        y,
-        chain,
-    ))
+    told(verdict::chain(c, assignment, permission, x, y, chain))
 }
 
-// Calls 12 to 14.
-pub fn of_tables(call: u8, head: &[u8], a: &mut [u8], b: &mut [u8], c: &mut [u8]) -> Numbers {
+fn judge(
+    head: &[u8],
+    assignment: &[u8],
+    permission: &[u8],
+    separations: &[u8],
+    chain: &mut [u8],
+) -> Numbers {
+    let c = counts(head);
+    let count = form::argument(head, 3);
+    let j = verdict::judge(c, assignment, permission, count, separations, chain);
+    three(j.answer as usize, j.position, j.count)
+}
+
+// Calls 12 to 15.
+pub fn of_tables(
+    call: u8,
+    head: &[u8],
+    a: &mut [u8],
+    b: &mut [u8],
+    c: &mut [u8],
+    d: &mut [u8],
+) -> Numbers {
     if call == 12 {
         return set_assignment(head, a, b);
     }
     if call == 13 {
         return set_permission(head, a, b);
     }
-    chain(head, a, b, c)
+    if call == 14 {
+        return chain(head, a, b, c);
+    }
+    judge(head, a, b, c, d)
 }

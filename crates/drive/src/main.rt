@@ -19,6 +19,7 @@
 // 12 set_assignment  S, O, R, s, r, value; assignment, permission           answer
 // 13 set_permission  S, O, R, r, o, mode; assignment, permission            answer
 // 14 chain           S, O, R, x, y; assignment, permission, chain           answer, count
+// 15 judge           S, O, R, count; assignment, permission, separations, chain       answer, position, count
 mod calls;
 mod form;
 
@@ -51,7 +52,7 @@ fn make_call(head: &[u8], a: &mut [u8], b: &mut [u8], c: &mut [u8], d: &mut [u8]
     if call < 12 {
         return calls::of_flow(call, head, a, b, c);
     }
-    calls::of_tables(call, head, a, b, c)
+    calls::of_tables(call, head, a, b, c, d)
 }
 
 // Writes the answer of a case.

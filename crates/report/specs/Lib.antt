@@ -1,2 +1,3 @@
 -- "The program and its whole output".
 pub mod Output
+pub mod Report
