@@ -1,14 +1,14 @@
 -- How a rehearsal goes on. No promise: it only ties functions together.
-use Prim.Native.Nat.{ℕ, _+_, _*_, _≤_, _<_}
+use Prim.Native.Nat.{ℕ, _+_, _*_, _%_, _≤_, _<_}
 use mathlib.Core.Path.{_≡_}
-use mathlib.Core.Bool.{cond, _||_}
-use mathlib.Core.List.{List}
+use mathlib.Core.Bool.{Bool, cond, not, _||_}
+use mathlib.Core.List.{List, [], _∷_}
 use lib.Dec.{eqb, ltb}
 use lib.ListN.{length, set, take}
 use Rattle.answers.specs.declared.Counts.{Counts}
 use Rattle.answers.specs.declared.Told.{Told}
-use Rattle.answers.specs.Sizes.{mostSubjects, mostObjects, mostTransfers, leastMarks, leastVerdicts}
-use Rattle.answers.specs.Call.{Refusal, _then_, firstRefusal, told}
+use Rattle.answers.specs.Sizes.{mostSubjects, mostObjects, mostTransfers, mostTransferBytes, leastMarks, leastVerdicts}
+use Rattle.answers.specs.Call.{Refusal, _if_, _then_, firstRefusal, told}
 use Rattle.answers.specs.Rows.{over, count, exceeds}
 use Rattle.answers.specs.Sheet.{Lent, sheetIn, entities}
 use Rattle.answers.specs.Refusals.{sheetRefusals}
@@ -21,7 +21,7 @@ use Rattle.transfers.specs.declared.Progress.{Progress}
 use Rattle.transfers.specs.declared.Tallied.{Tallied}
 use Rattle.transfers.specs.Acts.{verdict, verdictBytes, acted, after}
 use Rattle.transfers.specs.Transfers.{Comes, AllCome}
-use Rattle.transfers.specs.Rehearse.{Rehearsed, tally, tallyRefusals}
+use Rattle.transfers.specs.Rehearse.{Rehearsed, tally, mostTallied, tallyRefusals}
 
 -- what a call with its tally by value returns, and what it leaves
 abbrev pub rehearsedTo : Tallied → List ℕ → List ℕ → Rehearsed
@@ -87,10 +87,28 @@ finished p t =
     (record { told = told 0 (p .applied); tally = tally (t .applied + p .applied) (t .outside + p .outside) (t .barred + p .barred) })
     (record { told = told (p .answer) 0; tally = t })
 
+-- counts of a rehearsal that was not refused, and a tally that has room for them
+pub record Finishable (p : Progress) (t : Tally) : Type 0 where
+  pub few : p .answer ≡ 0 → (p .applied ≤ mostTransfers) × (p .outside ≤ mostTransfers) × (p .barred ≤ mostTransfers)
+  pub room : p .answer ≡ 0 → (t .applied ≤ mostTallied) × (t .outside ≤ mostTallied) × (t .barred ≤ mostTallied)
+
 -- a rehearsal begun: where nothing is refused, the channels are in the table
 pub record Begun (l : Lent) (refusals : List Refusal) (transfers : ℕ) (before after : List ℕ) (p : Progress) : Type 0 where
   pub progress-is : p ≡ begun (firstRefusal refusals) transfers
   pub channels : firstRefusal refusals ≡ 0 → Filled (entities (l .counts)) (Channel (sheetIn l)) before after
+
+-- the refusals of any rehearsal, by its tests: another buffer is too short, the list is over its size, a flat list has no whole threes
+unfoldable pub testedRefusals : Bool → Bool → Bool → Lent → Tally → List Refusal
+testedRefusals short long ragged l t = sheetRefusals short long l then ((15 if ragged) ∷ []) then tallyRefusals t
+
+-- whether so many marks or so many verdict bytes are too few
+unfoldable pub fewLent : ℕ → ℕ → Bool
+fewLent marks verdicts = ltb marks leastMarks || ltb verdicts leastVerdicts
+
+-- of a rehearsal of so many flat bytes, with so many marks and verdict bytes lent
+unfoldable pub flatRefusals : Lent → ℕ → ℕ → ℕ → Tally → List Refusal
+flatRefusals l bytes marks verdicts t =
+    testedRefusals (fewLent marks verdicts) (exceeds bytes mostTransferBytes) (not (eqb (bytes % 3) 0)) l t
 
 -- the refusals of a rehearsal of so many records, with so many marks and verdict bytes lent
 unfoldable pub countedRefusals : Lent → ℕ → ℕ → ℕ → Tally → List Refusal
