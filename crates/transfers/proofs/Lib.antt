@@ -17,5 +17,6 @@ pub mod SmallCalls
 pub mod Instances
 pub mod RefusalOrder
 pub mod ByTable
+pub mod Coming
 pub mod Started
 pub mod Running

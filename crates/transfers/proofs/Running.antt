@@ -42,6 +42,7 @@ use Rattle.transfers.specs.Inner.{
   noted,
   Steppable,
   Stepped,
+  Runnable,
   Ran,
   begun,
   finished,
@@ -122,7 +123,7 @@ module _ (c : Counts) (ch : ℕ → ℕ → Type 0) (ts : List Transfer) (marks 
       let size = ran-bytes r (omega arith) in
       let bytes = bytes-more (r .acts) (s .act) in
       let counted : (v : ℕ) → count v (verdictBytes (r .acts ++ (s .act ∷ []))) ≡ count v (verdictBytes (r .acts)) + cond (eqb (verdict (s .act)) v) 1 0 =
-            λ v. ap (count v) bytes ∙ count-more v (verdictBytes (r .acts)) (verdict (s .act)) in
+      λ v. ap (count v) bytes ∙ count-more v (verdictBytes (r .acts)) (verdict (s .act)) in
       record {
         acts = r .acts ++ (s .act ∷ []);
         come = rw (add-one k, take-suc ts k d inside) (come-more (r .come) (s .comes));
@@ -192,8 +193,7 @@ module _ {l : Lent} {refusals : List Refusal} (ts : List Transfer) (marks verdic
       let e = b .progress-is in
       let applied-is = ap (λ q. q .applied) e in
       let outside-is = ap (λ q. q .outside) e in
-      let barred-is = ap (λ q. q .barred) e in
-      (
+      let barred-is = ap (λ q. q .barred) e in (
         omega arith,
         record {
           few-subjects = s .subjects;
@@ -205,7 +205,7 @@ module _ {l : Lent} {refusals : List Refusal} (ts : List Transfer) (marks verdic
           applied = omega arith;
           outside = omega arith;
           barred = omega arith;
-        }
+        },
       )
 
   module _ (marks′ verdicts′ : List ℕ) (p : Progress) (r : RanTo l ts marks verdicts channels p₀ (p₀ .count) marks′ verdicts′ p) where
@@ -277,3 +277,35 @@ module _ (l : Lent) (ts : List Transfer) (marks verdicts : List ℕ) (t : Tally)
       RehearsesRecords l ts marks verdicts t (rehearsedTo r marks′ verdicts′)
   unfolding recordRefusals countedRefusals rehearsalShort
   records-outcome marks′ verdicts′ p r ran e = rw e (all-made ts marks verdicts clear started marks′ verdicts′ p ran)
+
+-- ---- of flat bytes
+module _ (l : Lent) (transfers marks verdicts : List ℕ) (t : Tally) {channels₀ channels : List ℕ} {p₀ : Progress}
+    (started : Begun l (flatRefusals l (length transfers) (length marks) (length verdicts) t) (length transfers / 3) channels₀ channels p₀) where
+  abbrev threes : List Transfer
+  threes = flatTransfers transfers
+
+  flat-clear : firstRefusal (flatRefusals l (length transfers) (length marks) (length verdicts) t) ≡ 0 →
+      Cleared l (length threes) (length marks) (length verdicts) t
+  flat-clear e = rw (transfers-length transfers) (flat-cleared l (length marks) (length verdicts) t (length transfers) e)
+
+  flat-started : Begun l (flatRefusals l (length transfers) (length marks) (length verdicts) t) (length threes) channels₀ channels p₀
+  flat-started = rw (transfers-length transfers) started
+
+  pub flat-runnable : Runnable (l .counts) channels transfers marks verdicts p₀
+  unfolding begun
+  flat-runnable =
+      record {
+        none-applied = ap (λ q. q .applied) (started .progress-is);
+        none-outside = ap (λ q. q .outside) (started .progress-is);
+        none-barred = ap (λ q. q .barred) (started .progress-is);
+        whole = λ k h. omega (arith, transfers-length transfers, first-steppable threes marks verdicts flat-clear flat-started k h .0);
+        each = λ k h. first-steppable threes marks verdicts flat-clear flat-started k h .1;
+      }
+
+  module _ {marks′ verdicts′ : List ℕ} {p : Progress} (ran : RanTo l threes marks verdicts channels p₀ (p₀ .count) marks′ verdicts′ p) where
+    pub flat-finishable : Finishable p t
+    flat-finishable = all-finishable threes marks verdicts flat-clear flat-started marks′ verdicts′ p ran
+
+    pub flat-outcome : {r : Tallied} → r ≡ finished p t → RehearsesFlat l transfers marks verdicts t (rehearsedTo r marks′ verdicts′)
+    unfolding rehearseRefusals flatRefusals testedRefusals fewLent rehearsalShort
+    flat-outcome e = rw e (all-made threes marks verdicts flat-clear flat-started marks′ verdicts′ p ran)

@@ -2,20 +2,22 @@
 use Prim.Native.Nat.{ℕ, _/_, _≤_, _<_}
 use native.Mathlib.Decide.{ℕ-discrete}
 use native.Mathlib.Omega.{arith}
-use mathlib.Core.Path.{_≡_, refl, ap, _∙_}
+use mathlib.Core.Path.{_≡_, refl, sym, ap, _∙_}
 use mathlib.Core.Logic.{_≢_}
-use mathlib.Core.Bool.{Bool, false}
+use mathlib.Core.Bool.{Bool, true, false}
 use mathlib.Core.List.{List}
 use borrow.Author.Tests.{ltb-false, ne-eqb}
 use Rattle.answers.specs.Sizes.{mostTransfers, leastMarks, leastVerdicts}
 use Rattle.answers.specs.Call.{Refusal, _then_, firstRefusal}
 use Rattle.answers.specs.Rows.{exceeds}
-use Rattle.answers.specs.Sheet.{Lent}
+use Rattle.answers.specs.Sheet.{Lent, entities, sheetIn}
 use Rattle.answers.specs.Refusals.{sheetRefusals}
 use Rattle.answers.specs.Inner.{Sized}
-use Rattle.answers.proofs.Calls.{passed, passed-then}
+use Rattle.answers.proofs.Calls.{passed, by-first, by-second, passed-then}
 use Rattle.answers.proofs.Accepted.{sheet-numbered, tables-passed}
 use Rattle.answers.proofs.Tabled.{neither}
+use Rattle.access.specs.Channel.{Channel}
+use Rattle.access.specs.Inner.{Filled}
 use Rattle.transfers.specs.declared.Tally.{Tally}
 use Rattle.transfers.specs.declared.Progress.{Progress}
 use Rattle.transfers.specs.Rehearse.{mostTallied, tallyRefusals}
@@ -43,6 +45,26 @@ roomy-passed t e =
     let b = passed _ _ _ tt (o .1) in
     record { applied = ltb-false _ _ (a .0); outside = ltb-false _ _ (o .0); barred = ltb-false _ _ (b .0) }
 
+-- ---- the refusals, return by return
+module _ (short long ragged : Bool) (l : Lent) (t : Tally) where
+  pub by-sheet : (n : ℕ) → n ≡ firstRefusal (sheetRefusals short long l) → n ≢ 0 → n ≡ firstRefusal (testedRefusals short long ragged l t)
+  unfolding testedRefusals
+  by-sheet n e some = e ∙ sym (by-first _ _ (λ none. some (e ∙ none)))
+
+  module _ (passes : firstRefusal (sheetRefusals short long l) ≡ 0) where
+    pub by-threes : ragged ≡ true → 15 ≡ firstRefusal (testedRefusals short long ragged l t)
+    unfolding testedRefusals firstRefusal _then_
+    by-threes e = rw (by-second (sheetRefusals short long l) _ (sheet-numbered short long l) passes, e)
+
+    pub by-tally : (n : ℕ) → ragged ≡ false → n ≡ firstRefusal (tallyRefusals t) → n ≡ firstRefusal (testedRefusals short long ragged l t)
+    unfolding testedRefusals firstRefusal _then_
+    by-tally n e f = rw (by-second (sheetRefusals short long l) _ (sheet-numbered short long l) passes, e) f
+
+  pub tested-sized : firstRefusal (testedRefusals short long ragged l t) ≡ 0 → Sized l
+  unfolding testedRefusals
+  tested-sized e = tables-passed _ _ l (passed-then _ _ (sheet-numbered short long l) e .0) .sized
+
+-- ---- what passed
 -- whatever the list's size is tested by
 tested-cleared : (l : Lent) (transfers marks verdicts : ℕ) (long ragged : Bool) (t : Tally) → (long ≡ false → transfers ≤ mostTransfers) →
     firstRefusal (testedRefusals (fewLent marks verdicts) long ragged l t) ≡ 0 → Cleared l transfers marks verdicts t
@@ -77,6 +99,17 @@ module _ (l : Lent) (marks verdicts : ℕ) (t : Tally) where
       tested-cleared l records marks verdicts _ false t (λ e. ltb-false _ _ e) (counted-tested records ∙ e)
 
 -- ---- the start
+module _ {l : Lent} {refusals : List Refusal} {transfers : ℕ} {before : List ℕ} where
+  pub begun-refused : (n : ℕ) → n ≡ firstRefusal refusals → n ≢ 0 →
+      Begun l refusals transfers before before (record { answer = n; count = 0; applied = 0; outside = 0; barred = 0 })
+  unfolding begun
+  begun-refused n e some = record { progress-is = rw (← e, ne-eqb n 0 some); channels = λ none. absurd (some (e ∙ none)) }
+
+  pub begun-filled : {after : List ℕ} → firstRefusal refusals ≡ 0 → Filled (entities (l .counts)) (Channel (sheetIn l)) before after →
+      Begun l refusals transfers before after (record { answer = 0; count = transfers; applied = 0; outside = 0; barred = 0 })
+  unfolding begun
+  begun-filled passes f = record { progress-is = rw passes; channels = λ _. f }
+
 pub begun-agrees : {l : Lent} {refusals refusals′ : List Refusal} {transfers : ℕ} {before after : List ℕ} {p : Progress} →
     firstRefusal refusals ≡ firstRefusal refusals′ → Begun l refusals transfers before after p → Begun l refusals′ transfers before after p
 begun-agrees {transfers = transfers} e b =

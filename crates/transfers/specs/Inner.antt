@@ -15,12 +15,13 @@ use Rattle.answers.specs.Refusals.{sheetRefusals}
 use Rattle.access.specs.Channel.{Channel}
 use Rattle.access.specs.Inner.{Filled}
 use Rattle.transfers.specs.declared.Act.{Act}
+use Rattle.transfers.specs.declared.Act.the-variants.{Moves, OutOfRange, NotPermitted}
 use Rattle.transfers.specs.declared.Transfer.{Transfer}
 use Rattle.transfers.specs.declared.Tally.{Tally}
 use Rattle.transfers.specs.declared.Progress.{Progress}
 use Rattle.transfers.specs.declared.Tallied.{Tallied}
 use Rattle.transfers.specs.Acts.{verdict, verdictBytes, acted, after}
-use Rattle.transfers.specs.Transfers.{Comes, AllCome}
+use Rattle.transfers.specs.Transfers.{transfer, Comes, AllCome}
 use Rattle.transfers.specs.Rehearse.{Rehearsed, tally, mostTallied, tallyRefusals}
 
 -- what a call with its tally by value returns, and what it leaves
@@ -31,6 +32,22 @@ rehearsedTo r marks verdicts =
 -- the same of a call with a lent tally
 abbrev pub rehearsedWith : Told → List ℕ → List ℕ → Tally → Rehearsed
 rehearsedWith r marks verdicts t = record { answer = r .answer; applied = r .value; marks = marks; verdicts = verdicts; tally = t }
+
+-- what a way from a to b comes to
+pub data Tried (ch : ℕ → ℕ → Type 0) (a b : ℕ) : Act → Type 0 where
+  has-channel : ch a b → Tried ch a b (Moves a b)
+  lacks-channel : (ch a b → ⊥) → Tried ch a b NotPermitted
+
+-- an act that moves between n marks, or moves none
+pub data Within (n : ℕ) : Act → Type 0 where
+  between : {a b : ℕ} → a < n → b < n → Within n (Moves a b)
+  no-number : Within n OutOfRange
+  no-channel : Within n NotPermitted
+
+-- an act made: its verdict byte, and the marks
+pub record Made (act : Act) (marks marks′ : List ℕ) (byte : ℕ) : Type 0 where
+  pub byte-is : byte ≡ verdict act
+  pub marks-are : marks′ ≡ acted act marks
 
 -- one verdict byte more
 unfoldable pub noted : Progress → ℕ → Progress
@@ -74,6 +91,18 @@ pub record Ran (c : Counts) (ch : ℕ → ℕ → Type 0) (ts : List Transfer) (
   pub applied-is : p′ .applied ≡ count 0 (verdictBytes acts)
   pub outside-is : p′ .outside ≡ count 10 (verdictBytes acts)
   pub barred-is : p′ .barred ≡ count 16 (verdictBytes acts)
+
+-- what would be read past the end of a list
+abbrev pub noTransfer : Transfer
+noTransfer = transfer 0 0 0
+
+-- a rehearsal of flat bytes that can make each transfer that it is to make
+pub record Runnable (c : Counts) (channels bytes marks verdicts : List ℕ) (p : Progress) : Type 0 where
+  pub none-applied : p .applied ≡ 0
+  pub none-outside : p .outside ≡ 0
+  pub none-barred : p .barred ≡ 0
+  pub whole : (k : ℕ) → k < p .count → k * 3 + 2 < length bytes
+  pub each : (k : ℕ) → k < p .count → Steppable c channels marks verdicts k p
 
 -- the start: the refusal, and how many transfers will be made
 unfoldable pub begun : ℕ → ℕ → Progress
