@@ -378,33 +378,6 @@ pub fn begin_records(
     )
 }
 
-// Makes transfer number k of flat bytes.
-fn step_at(
-    channels: &[u8],
-    counts: Counts,
-    transfers: &[u8],
-    marks: &mut [u32],
-    verdicts: &mut [u8],
-    k: usize,
-    p: Progress,
-) -> Progress
-    requires { ⌜ Steppable counts (now channels) (now marks) (now verdicts) k p × (k * 3 + 2 < length (now transfers)) ⌝ }
-    ensures { λ r. ⌜ Stepped counts (Bytes (entities counts) (now (channels .entry))) (getD (flatTransfers (now (transfers .entry))) k noTransfer) k (now (marks .entry)) (now (verdicts .entry)) p (now (marks .exit)) (now (verdicts .exit)) r ⌝ }
-{
-    let at = k * 3;
-    step(
-        channels,
-        counts,
-        marks,
-        verdicts,
-        k,
-        transfers[at],
-        transfers[at + 1],
-        transfers[at + 2],
-        p,
-    )
-}
-
 // Makes the transfers of flat bytes, one after the other.
 fn run(
     channels: &[u8],
@@ -421,7 +394,18 @@ fn run(
     let mut p = begun;
     let mut k = 0;
     while k < count {
-        p = step_at(channels, counts, transfers, marks, verdicts, k, p);
+        let at = k * 3;
+        p = step(
+            channels,
+            counts,
+            marks,
+            verdicts,
+            k,
+            transfers[at],
+            transfers[at + 1],
+            transfers[at + 2],
+            p,
+        );
         k += 1;
     }
     p

@@ -2,14 +2,13 @@
 use Prim.Native.Nat.{ℕ, _+_, _-_, _*_, _≤_, _<_}
 use native.Mathlib.Omega.{arith}
 use mathlib.Core.Path.{_≡_}
-use mathlib.Core.List.{List}
-use lib.ListN.{length}
+use lib.ListN.{length, getD}
 use borrow.Author.Needs.{needs}
 use Rattle.answers.specs.Rows.{Bytes}
 use Rattle.answers.specs.Sheet.{entities}
 use Rattle.transfers.specs.Transfers.{flatTransfers}
 use Rattle.transfers.specs.Inner.{noTransfer, Ran}
-use Rattle.transfers.proofs.FlatBytes.{transfers-length}
+use Rattle.transfers.proofs.FlatBytes.{transfers-length, transfers-at}
 use Rattle.transfers.proofs.Running.{ran-none, ran-more, still-steppable}
 use Rattle.transfers.proofs.run.Statement.{statement}
 use Rattle.transfers.proofs.run.Tie as tie
@@ -22,24 +21,47 @@ Inv-loop channels counts transfers marks₀ verdicts₀ count p₀ k₀ marks ve
 abbrev μ-loop : tie.MeasureT-loop
 μ-loop channels counts transfers marks₀ verdicts₀ count p₀ k₀ marks verdicts p k = count - k
 
--- three bytes make a transfer
-inside : (transfers : List ℕ) (k : ℕ) → k * 3 + 2 < length transfers → k < length (flatTransfers transfers)
-inside transfers k h = omega (arith, transfers-length transfers)
+-- the entry
+abbrev start : tie.In-loop Inv-loop μ-loop → tie.Start Inv-loop μ-loop
+start c = c .before .before .before .before .before .before
+
+-- in a turn there are three bytes left
+whole : (c : tie.In-loop Inv-loop μ-loop) → c .before .loop .k * 3 + 2 < length (start c .args .transfers .now)
+whole c = start c .pre .whole (c .before .loop .k) (omega arith)
+
+-- so there is a transfer left
+reached : (c : tie.In-loop Inv-loop μ-loop) → c .before .loop .k < length (flatTransfers (start c .args .transfers .now))
+reached c = omega (arith, whole c, transfers-length (start c .args .transfers .now))
 
 loop-holds : tie.Need-loop-holds Inv-loop μ-loop
 loop-holds c =
-    let start = c .before .before .before .before in
-    (search needs, search needs, search needs, ran-none _ _ _ _ _ _ (start .pre .none-applied) (start .pre .none-outside) (start .pre .none-barred))
+    let p = c .before .before .before .before .pre in
+    (search needs, search needs, search needs, ran-none _ _ _ _ _ _ (p .none-applied) (p .none-outside) (p .none-barred))
 
-step-at-requires : tie.Need-step-at-requires Inv-loop μ-loop
-step-at-requires c κs =
-    let at-loop = c .before .before .before in
-    let start = at-loop .before .before .before .before .before in
-    let bytes = start .args .transfers .now in
-    let more : at-loop .loop .k < start .args .begun .count = omega arith in
-    let whole = start .pre .whole (at-loop .loop .k) more in
-    let reached = inside bytes (at-loop .loop .k) whole in
-    (still-steppable (flatTransfers bytes) (omega arith) (start .pre .each (at-loop .loop .k) more) (at-loop .loop .inv .3), whole)
+mul-at : tie.Need-mul-at Inv-loop μ-loop
+mul-at c = omega (arith, whole c)
+
+shared-slice-read-step : tie.Need-shared-slice-read-step Inv-loop μ-loop
+shared-slice-read-step c = omega (arith, whole (c .before .before .before))
+
+add-step : tie.Need-add-step Inv-loop μ-loop
+add-step c = omega (arith, whole (c .before .before .before))
+
+shared-slice-read-step-2 : tie.Need-shared-slice-read-step-2 Inv-loop μ-loop
+shared-slice-read-step-2 c = omega (arith, whole (c .before .before .before .before))
+
+add-step-2 : tie.Need-add-step-2 Inv-loop μ-loop
+add-step-2 c = omega (arith, whole (c .before .before .before .before))
+
+shared-slice-read-step-3 : tie.Need-shared-slice-read-step-3 Inv-loop μ-loop
+shared-slice-read-step-3 c = omega (arith, whole (c .before .before .before .before .before))
+
+step-requires : tie.Need-step-requires Inv-loop μ-loop
+step-requires c κs =
+    let turn = c .before .before .before .before .before in
+    let k = turn .before .loop .k in
+    let left = reached turn in
+    still-steppable (flatTransfers (start turn .args .transfers .now)) (omega arith) (start turn .pre .each k (omega arith)) (turn .before .loop .inv .3)
 
 add-k : tie.Need-add-k Inv-loop μ-loop
 add-k c = search needs
@@ -50,15 +72,16 @@ loop-less c = search needs
 loop-again : tie.Need-loop-again Inv-loop μ-loop
 loop-again c =
     let at-step = c .before .before .before .before in
-    let at-loop = at-step .before .before .before .before in
-    let start = at-loop .before .before .before .before .before in
-    let more : at-loop .loop .k < start .args .begun .count = omega arith in
-    let reached = inside (start .args .transfers .now) (at-loop .loop .k) (start .pre .whole (at-loop .loop .k) more) in
-    let place = start .pre .each (at-loop .loop .k) more .place in (
+    let turn = at-step .before .before .before .before .before .before in
+    let k = turn .before .loop .k in
+    let bytes = start turn .args .transfers .now in
+    let room = start turn .pre .each k (omega arith) .place in
+    (
       omega arith,
       search needs,
       search needs,
-      ran-more _ _ _ _ _ _ noTransfer _ _ _ _ _ _ _ reached place (at-loop .loop .inv .3) (at-step .step-at .ensures),
+      ran-more _ _ _ _ _ _ noTransfer k _ _ _ _ _ _ (reached turn) room (turn .before .loop .inv .3)
+      (rw (transfers-at bytes k noTransfer (whole turn)) (at-step .step .ensures)),
     )
 
 same-length : tie.Need-same-length Inv-loop μ-loop
@@ -69,8 +92,8 @@ same-length-2 c = search needs
 
 returns : tie.Need-returns Inv-loop μ-loop
 returns c =
-    let start = c .before .before .before .before .before .before in
-    let all : c .before .loop .k ≡ start .args .begun .count = omega arith in
+    let begun = c .before .before .before .before .before .before .args .begun in
+    let all : c .before .loop .k ≡ begun .count = omega arith in
     rw all at (c .before .loop .inv .3)
 
 pub run-spec : {M : Type 1} → statement M
@@ -80,7 +103,13 @@ run-spec =
     Inv-loop
     μ-loop
     loop-holds
-    step-at-requires
+    mul-at
+    shared-slice-read-step
+    add-step
+    shared-slice-read-step-2
+    add-step-2
+    shared-slice-read-step-3
+    step-requires
     add-k
     loop-less
     loop-again
