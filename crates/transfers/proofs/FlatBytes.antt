@@ -1,11 +1,11 @@
 -- The flat bytes of transfer records: three each, and read back they are the records.
-use Prim.Native.Nat.{ℕ, zero, suc, _*_, _/_, _%_, _<_}
+use Prim.Native.Nat.{ℕ, zero, suc, _+_, _*_, _/_, _%_, _<_}
 use native.Mathlib.Omega.{arith}
 use mathlib.Core.Path.{_≡_, refl, ap}
 use mathlib.Core.List.{List, [], _∷_}
 use lib.ListN.{length, getD}
 use Rattle.transfers.specs.declared.Transfer.{Transfer}
-use Rattle.transfers.specs.Transfers.{flatTransfers}
+use Rattle.transfers.specs.Transfers.{transfer, flatTransfers}
 
 unfoldable pub flatBytes : List Transfer → List ℕ
 flatBytes [] = []
@@ -35,6 +35,20 @@ transfers-length [] = refl
 transfers-length (s ∷ []) = refl
 transfers-length (s ∷ o ∷ []) = refl
 transfers-length (s ∷ o ∷ m ∷ bytes) = omega (arith, transfers-length bytes)
+
+-- each is read from three bytes, whatever stands past the end
+pub transfers-at : (bytes : List ℕ) (k : ℕ) (d : Transfer) → k * 3 + 2 < length bytes →
+    getD (flatTransfers bytes) k d ≡ transfer (getD bytes (k * 3) 0) (getD bytes (k * 3 + 1) 0) (getD bytes (k * 3 + 2) 0)
+unfolding flatTransfers
+transfers-at [] k d h = absurd (omega arith)
+transfers-at (s ∷ []) k d h = absurd (omega arith)
+transfers-at (s ∷ o ∷ []) k d h = absurd (omega arith)
+transfers-at (s ∷ o ∷ m ∷ bytes) zero d h = refl
+transfers-at (s ∷ o ∷ m ∷ bytes) (suc k) d h =
+    let first : suc k * 3 ≡ suc (suc (suc (k * 3))) = omega arith in
+    let second : suc k * 3 + 1 ≡ suc (suc (suc (k * 3 + 1))) = omega arith in
+    let third : suc k * 3 + 2 ≡ suc (suc (suc (k * 3 + 2))) = omega arith in
+    rw (third, second, first) (transfers-at bytes k d (omega arith))
 
 -- fields that are bytes make flat bytes
 pub record Bytes (t : Transfer) : Type 0 where

@@ -16,3 +16,7 @@ pub mod SmallSheet
 pub mod SmallCalls
 pub mod Instances
 pub mod RefusalOrder
+pub mod ByTable
+pub mod Coming
+pub mod Started
+pub mod Running

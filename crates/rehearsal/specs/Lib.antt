@@ -1,0 +1,2 @@
+-- The promises of the calls are in `transfers`.
+pub mod Inner
