@@ -213,3 +213,242 @@ pub fn judge(c: &Counts, assignment: &[u8], permission: &[u8], count: usize, sep
         }
     }
 }
+
+// ---- reading: one pass that checks, one that writes
+
+#[derive(Clone, Copy)]
+enum Frame {
+    Header(u8, u8, u8),
+    Assign(u8, u8),
+    Permit(u8, u8, u8),
+    Separate(u8, u8),
+    End(u8, u8),
+}
+
+#[derive(Clone, Copy)]
+enum Parsed {
+    NoBytes,
+    NoFrame,
+    Good(Frame),
+}
+
+#[derive(Clone, Copy, Default)]
+struct Passed {
+    lines: usize,
+    ended: bool,
+    subjects: usize,
+    objects: usize,
+    roles: usize,
+    last: usize,
+    separations: usize,
+}
+
+fn digit(b: u8) -> Option<u8> {
+    match b {
+        b'0'..=b'9' => Some(b - b'0'),
+        b'a'..=b'f' => Some(b - b'a' + 10),
+        _ => None,
+    }
+}
+
+fn byte(line: &[u8], i: usize) -> u8 {
+    digit(line[i]).unwrap_or(0) * 16 + digit(line[i + 1]).unwrap_or(0)
+}
+
+fn frame(line: &[u8]) -> Parsed {
+    let good = match (line.len(), byte(line, 0)) {
+        (6, 2) => Frame::Assign(byte(line, 2), byte(line, 4)),
+        (6, 4) => Frame::Separate(byte(line, 2), byte(line, 4)),
+        (6, 5) => Frame::End(byte(line, 2), byte(line, 4)),
+        (8, 1) => Frame::Header(byte(line, 2), byte(line, 4), byte(line, 6)),
+        (8, 3) => Frame::Permit(byte(line, 2), byte(line, 4), byte(line, 6)),
+        _ => return Parsed::NoFrame,
+    };
+    Parsed::Good(good)
+}
+
+fn parse_at(text: &[u8], p: usize) -> (Parsed, usize) {
+    let end = text[p..].iter().position(|&b| b == b'\n').map_or(text.len(), |i| p + i);
+    let line = &text[p..end];
+    let pairs = !line.is_empty() && line.len() % 2 == 0 && line.iter().all(|&b| digit(b).is_some());
+    let parsed = if end < text.len() && pairs { frame(line) } else { Parsed::NoBytes };
+    (parsed, end + 1)
+}
+
+fn key(f: Frame) -> usize {
+    let (kind, a, b) = match f {
+        Frame::Header(s, o, _) => (1, s, o),
+        Frame::Assign(s, r) => (2, s, r),
+        Frame::Permit(r, o, _) => (3, r, o),
+        Frame::Separate(x, y) => (4, x, y),
+        Frame::End(h, l) => (5, h, l),
+    };
+    kind * 65536 + a as usize * 256 + b as usize
+}
+
+fn frame_fault(k: &Passed, f: Frame) -> u8 {
+    let n = k.subjects + k.objects;
+    if matches!(f, Frame::Header(..)) != (k.lines == 0) {
+        return 4;
+    }
+    if matches!(f, Frame::Header(s, o, r) if s > 48 || o > 64 || r > 48) {
+        return 5;
+    }
+    let outside = match f {
+        Frame::Assign(s, r) => s as usize >= k.subjects || r as usize >= k.roles,
+        Frame::Permit(r, o, m) => r as usize >= k.roles || o as usize >= k.objects || m == 0 || m > 3,
+        Frame::Separate(x, y) => x as usize >= n || y as usize >= n,
+        _ => false,
+    };
+    if outside {
+        return 6;
+    }
+    if key(f) <= k.last {
+        return 7;
+    }
+    if matches!(f, Frame::Separate(..)) && k.separations >= 64 {
+        return 8;
+    }
+    if matches!(f, Frame::End(h, l) if h as usize * 256 + l as usize != k.lines) {
+        return 9;
+    }
+    0
+}
+
+fn line_fault(k: &Passed, p: Parsed) -> u8 {
+    if k.ended {
+        return 9;
+    }
+    match p {
+        Parsed::NoBytes => 2,
+        Parsed::NoFrame => 3,
+        Parsed::Good(f) => frame_fault(k, f),
+    }
+}
+
+fn after(k: Passed, f: Frame) -> Passed {
+    let mut next = Passed { lines: k.lines + 1, last: key(f), ..k };
+    match f {
+        Frame::Header(s, o, r) => {
+            next.subjects = s as usize;
+            next.objects = o as usize;
+            next.roles = r as usize;
+        }
+        Frame::Separate(..) => next.separations += 1,
+        Frame::End(..) => next.ended = true,
+        _ => {}
+    }
+    next
+}
+
+fn check_text(text: &[u8]) -> u8 {
+    let mut k = Passed::default();
+    let mut p = 0;
+    while p < text.len() {
+        let (parsed, next) = parse_at(text, p);
+        let fault = line_fault(&k, parsed);
+        if fault != 0 {
+            return fault;
+        }
+        if let Parsed::Good(f) = parsed {
+            k = after(k, f);
+        }
+        p = next;
+    }
+    if k.ended {
+        0
+    } else {
+        9
+    }
+}
+
+fn store(k: &Passed, f: Frame, assignment: &mut [u8], permission: &mut [u8], separations: &mut [u8]) {
+    match f {
+        Frame::Header(s, o, r) => {
+            assignment[..s as usize * r as usize].fill(0);
+            permission[..r as usize * o as usize].fill(0);
+        }
+        Frame::Assign(s, r) => assignment[s as usize * k.roles + r as usize] = 1,
+        Frame::Permit(r, o, m) => permission[r as usize * k.objects + o as usize] = m,
+        Frame::Separate(x, y) => {
+            separations[2 * k.separations] = x;
+            separations[2 * k.separations + 1] = y;
+        }
+        Frame::End(..) => {}
+    }
+}
+
+pub fn read(text: &[u8], assignment: &mut [u8], permission: &mut [u8], separations: &mut [u8]) -> u32 {
+    if assignment.len() < 2304 || permission.len() < 3072 || separations.len() < 128 {
+        return 1;
+    }
+    if text.len() > 44240 {
+        return 5;
+    }
+    let refusal = check_text(text);
+    if refusal != 0 {
+        return refusal as u32;
+    }
+    let mut k = Passed::default();
+    let mut p = 0;
+    while p < text.len() {
+        let (parsed, next) = parse_at(text, p);
+        if let Parsed::Good(f) = parsed {
+            store(&k, f, assignment, permission, separations);
+            k = after(k, f);
+        }
+        p = next;
+    }
+    0
+}
+
+// ---- writing
+
+struct Pen<'a> {
+    text: &'a mut [u8],
+    at: usize,
+    lines: usize,
+}
+
+impl Pen<'_> {
+    fn byte(&mut self, b: u8) {
+        for v in [b / 16, b % 16] {
+            self.text[self.at] = if v < 10 { b'0' + v } else { b'a' + v - 10 };
+            self.at += 1;
+        }
+    }
+
+    fn line(&mut self, bytes: &[u8]) {
+        for &b in bytes {
+            self.byte(b);
+        }
+        self.text[self.at] = b'\n';
+        self.at += 1;
+        self.lines += 1;
+    }
+}
+
+pub fn write(c: &Counts, assignment: &[u8], permission: &[u8], count: usize, separations: &[u8], text: &mut [u8]) -> usize {
+    let short = separations.len() < 128 || text.len() < 44240;
+    if sheet_refusal(short, c, assignment, permission) != 0 || separation_refusal(c.subjects + c.objects, count, separations) != 0 {
+        return 0;
+    }
+    let mut pen = Pen { text, at: 0, lines: 0 };
+    pen.line(&[1, c.subjects as u8, c.objects as u8, c.roles as u8]);
+    for (i, &b) in assignment[..c.subjects * c.roles].iter().enumerate() {
+        if b != 0 {
+            pen.line(&[2, (i / c.roles) as u8, (i % c.roles) as u8]);
+        }
+    }
+    for (i, &b) in permission[..c.roles * c.objects].iter().enumerate() {
+        if b != 0 {
+            pen.line(&[3, (i / c.objects) as u8, (i % c.objects) as u8, b]);
+        }
+    }
+    for pair in separations[..2 * count].chunks(2) {
+        pen.line(&[4, pair[0], pair[1]]);
+    }
+    let lines = pen.lines;
+    pen.line(&[5, (lines / 256) as u8, (lines % 256) as u8]);
+    pen.at
+}
