@@ -11,10 +11,10 @@ use Rattle.answers.specs.Sheet.{Sheet, entities}
 use Rattle.answers.proofs.Marks.{mark-of, marked-yes}
 use Rattle.answers.proofs.Products.{place-below}
 use Rattle.theory.specs.Flow.{Flow, here}
-use Rattle.theory.specs.Order.{Included}
+use Rattle.theory.specs.Order.{Included, Equivalent, ClassName}
 use Rattle.theory.specs.Effect.{Effect}
 use Rattle.theory.proofs.Flows.{Has, flow-reflexive, flow-transitive, flow-more}
-use Rattle.theory.proofs.Orders.{Agree, EqualAnswers, equal-answers, label-of-flow, flow-of-label}
+use Rattle.theory.proofs.Orders.{Agree, EqualAnswers, agree-turned, equal-answers, label-of-flow, class-named-once, named-class}
 use Rattle.theory.proofs.Effects.{more-gains, fewer-loses}
 use Rattle.access.specs.Channel.{Channel}
 use Rattle.flow.specs.Fill.{SheetFlow, Filled}
@@ -58,6 +58,28 @@ module _ (t : Sheet) (before after : List ℕ) (f : LeftBy t before after) (x y 
 
   pub byte-of-label : Included (entities (t .counts)) (Bytes (entities (t .counts)) after) x y → Bytes (entities (t .counts)) after x y
   byte-of-label i = i x hx (agree .there x x hx hx here)
+
+-- The equivalence classes of a filled table partition the entities: two have one class name exactly if each flows to the other.
+pub record OneClass (n : ℕ) (R : ℕ → ℕ → Type 0) (x y a b : ℕ) : Type 0 where
+  pub one-name : Equivalent R x y → ClassName n R x a → ClassName n R y b → a ≡ b
+  pub one-class : a ≡ b → ClassName n R x a → ClassName n R y b → Equivalent R x y
+
+pub classes-partition : (t : Sheet) (before after : List ℕ) → LeftBy t before after → (x y a b : ℕ) → x < entities (t .counts) → y < entities (t .counts) →
+    OneClass (entities (t .counts)) (Bytes (entities (t .counts)) after) x y a b
+classes-partition t before after f x y a b hx hy =
+    let agree : Agree (entities (t .counts)) (SheetFlow t) (Bytes (entities (t .counts)) after) = filled-agrees t before after f in
+    let of-x = equal-answers (agree-turned agree) hx hy in
+    let of-y = equal-answers (agree-turned agree) hy hx in
+    record {
+      one-name = λ e p q.
+          class-named-once flow-reflexive flow-transitive
+          (record { there = agree .back x y hx hy (e .there); back = agree .back y x hy hx (e .back) })
+          (of-x .class a p) (of-y .class b q);
+      one-class = λ same p q.
+          let q′ : ClassName (entities (t .counts)) (SheetFlow t) y a = rw same (of-y .class b q) in
+          let e = named-class flow-reflexive flow-transitive (of-x .class a p) q′ in
+          record { there = agree .there x y hx hy (e .there); back = agree .there y x hy hx (e .back) };
+    }
 
 -- ---- "Between filled tables, a change that only adds .. never gives 2 or 3; one that only takes away never gives 1 or 3"
 module _ {n : ℕ} {ch ch′ : ℕ → ℕ → Type 0} {before after : List ℕ} (a : Agree n (Flow ch) (Bytes n before)) (b : Agree n (Flow ch′) (Bytes n after)) {x e : ℕ} (hx : x < n) where
