@@ -5,7 +5,7 @@ ghost use Prim.Native.Nat.{_+_, _*_, _≤_, _<_};
 ghost use lib.ListN.{length};
 ghost use Rattle.answers.specs.Sizes.{mostRoles, leastFlow};
 ghost use Rattle.answers.specs.Rows.{Mark, Row};
-ghost use Rattle.answers.specs.Sheet.{counts, entities, lent, sheetIn};
+ghost use Rattle.answers.specs.Sheet.{entities, lent, sheetIn};
 ghost use Rattle.access.specs.Channel.{Has, May, Channel};
 ghost use Rattle.access.specs.Inner.{Answers, RolesOf, Gatherable, Lists, OnList, ModeOn, ListChannel, Askable, Filled, Fillable};
 
@@ -154,24 +154,12 @@ fn fill_rows(c: Counts, lists: &[u8], used: &[usize], permission: &[u8], channel
 }
 
 // Writes the channel table of a sheet: the byte at x * N + y is 1 where there is a channel from x to y, and 0 where there is none.
-pub fn fill_channels(
-    subjects: usize,
-    objects: usize,
-    roles: usize,
-    assignment: &[u8],
-    permission: &[u8],
-    channels: &mut [u8],
-)
-    requires { ⌜ Fillable (lent (counts subjects objects roles) (now assignment) (now permission)) (now channels) ⌝ }
-    ensures { λ _. ⌜ Filled (subjects + objects) (Channel (sheetIn (lent (counts subjects objects roles) (now (assignment .entry)) (now (permission .entry))))) (now (channels .entry)) (now (channels .exit)) ⌝ }
+pub fn fill_channels(c: Counts, assignment: &[u8], permission: &[u8], channels: &mut [u8])
+    requires { ⌜ Fillable (lent c (now assignment) (now permission)) (now channels) ⌝ }
+    ensures { λ _. ⌜ Filled (entities c) (Channel (sheetIn (lent c (now (assignment .entry)) (now (permission .entry))))) (now (channels .entry)) (now (channels .exit)) ⌝ }
 {
     let mut lists = [0u8; 2304];
     let mut used = [0usize; 48];
-    gather_all(subjects, roles, assignment, &mut lists, &mut used);
-    let c = Counts {
-        subjects: subjects,
-        objects: objects,
-        roles: roles,
-    };
+    gather_all(c.subjects, c.roles, assignment, &mut lists, &mut used);
     fill_rows(c, &lists, &used, permission, channels);
 }

@@ -1,10 +1,11 @@
 // The flow table of a sheet, and the questions on one.
+use answers::Counts;
 ghost use mathlib.Core.Path.{_≡_};
 ghost use Rattle.answers.specs.Call.{firstRefusal, _then_, told};
 ghost use Rattle.answers.specs.Rows.{Mark, Bytes};
 ghost use Rattle.theory.specs.Order.{Equivalent, ClassName, GreatestSecrecy, GreatestIntegrity, Greatest};
 ghost use Rattle.theory.specs.Effect.{Gained, Effect};
-ghost use Rattle.answers.specs.Sheet.{lent, counts, sheetIn};
+ghost use Rattle.answers.specs.Sheet.{lent, sheetIn};
 ghost use Rattle.access.specs.Inner.{Fillable};
 ghost use Rattle.flow.specs.Fill.{Filled, Fills};
 ghost use Rattle.flow.specs.Table.{byteRefusals, flowRefusals, entityRefusals};
@@ -112,33 +113,19 @@ fn both_asked_refusal(n: usize, table: &[u8], x: usize, y: usize) -> u8
 // ---- the flow table of a sheet
 
 // Writes the flow table of a sheet whose tables were not refused. No lent buffer serves as scratch: the channels stand in a local table.
-fn close_channels(
-    subjects: usize,
-    objects: usize,
-    roles: usize,
-    assignment: &[u8],
-    permission: &[u8],
-    flow: &mut [u8],
-)
-    requires { ⌜ Fillable (lent (counts subjects objects roles) (now assignment) (now permission)) (now flow) ⌝ }
-    ensures { λ _. ⌜ Filled (sheetIn (lent (counts subjects objects roles) (now (assignment .entry)) (now (permission .entry)))) (now (flow .entry)) (0, now (flow .exit)) ⌝ }
+fn close_channels(c: Counts, assignment: &[u8], permission: &[u8], flow: &mut [u8])
+    requires { ⌜ Fillable (lent c (now assignment) (now permission)) (now flow) ⌝ }
+    ensures { λ _. ⌜ Filled (sheetIn (lent c (now (assignment .entry)) (now (permission .entry)))) (now (flow .entry)) (0, now (flow .exit)) ⌝ }
 {
-    let n = subjects + objects;
+    let n = c.subjects + c.objects;
     let mut channels = [0u8; 12544];
-    access::fill_channels(
-        subjects,
-        objects,
-        roles,
-        assignment,
-        permission,
-        &mut channels,
-    );
+    access::fill_channels(c, assignment, permission, &mut channels);
     graph::fill_rows(&channels, n, flow);
 }
 
 // Writes the flow table of a sheet: the byte at x * N + y is 1 if x flows to y, and 0 if not. Refuses with 1, 5 and 11, in this order,
 // and then changes nothing.
-pub fn fill(counts: answers::Counts, assignment: &[u8], permission: &[u8], flow: &mut [u8]) -> u8
+pub fn fill(counts: Counts, assignment: &[u8], permission: &[u8], flow: &mut [u8]) -> u8
     ensures { λ r. ⌜ Fills (lent counts (now (assignment .entry)) (now (permission .entry))) (now (flow .entry)) (r, now (flow .exit)) ⌝ }
 {
     let refusal = answers::sheet_refusal(
@@ -151,14 +138,7 @@ pub fn fill(counts: answers::Counts, assignment: &[u8], permission: &[u8], flow:
     if refusal != 0 {
         return refusal;
     }
-    close_channels(
-        counts.subjects,
-        counts.objects,
-        counts.roles,
-        assignment,
-        permission,
-        flow,
-    );
+    close_channels(counts, assignment, permission, flow);
     0
 }
 

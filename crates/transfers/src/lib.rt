@@ -302,14 +302,7 @@ fn start(
             barred: 0,
         };
     }
-    access::fill_channels(
-        counts.subjects,
-        counts.objects,
-        counts.roles,
-        assignment,
-        permission,
-        channels,
-    );
+    access::fill_channels(counts, assignment, permission, channels);
     Progress {
         answer: 0,
         count: transfers,

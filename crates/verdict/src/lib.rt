@@ -71,14 +71,7 @@ fn show(
 {
     let n = c.subjects + c.objects;
     let mut channels = [0u8; 12544];
-    access::fill_channels(
-        c.subjects,
-        c.objects,
-        c.roles,
-        assignment,
-        permission,
-        &mut channels,
-    );
+    access::fill_channels(c, assignment, permission, &mut channels);
     graph::show_chain(&channels, n, x, y, chain)
 }
 
@@ -229,14 +222,7 @@ fn judge_sheet(
 {
     let n = c.subjects + c.objects;
     let mut channels = [0u8; 12544];
-    access::fill_channels(
-        c.subjects,
-        c.objects,
-        c.roles,
-        assignment,
-        permission,
-        &mut channels,
-    );
+    access::fill_channels(c, assignment, permission, &mut channels);
     judge_channels(&channels, n, count, separations, chain)
 }
 

@@ -1,7 +1,7 @@
 -- `access::fill_channels` meets its contract: the channels by the lists are those of the sheet.
 use native.Mathlib.Omega.{arith}
 use borrow.Author.Needs.{needs}
-use Rattle.answers.specs.Sheet.{Lent, counts, lent}
+use Rattle.answers.specs.Sheet.{Lent, lent}
 use Rattle.answers.proofs.Products.{product-within}
 use Rattle.access.proofs.Filling.{by-lists, to-lists, askable, filled-agrees}
 use Rattle.access.proofs.fill_channels.Statement.{statement}
@@ -9,7 +9,7 @@ use Rattle.access.proofs.fill_channels.Tie as tie
 
 -- what is lent
 abbrev of : tie.Start → Lent
-of c = lent (counts (c .args .subjects) (c .args .objects) (c .args .roles)) (c .args .assignment .now) (c .args .permission .now)
+of c = lent (c .args .c) (c .args .assignment .now) (c .args .permission .now)
 
 slice-aggregate-gather-all : tie.Need-slice-aggregate-gather-all
 slice-aggregate-gather-all c = search needs
@@ -24,7 +24,7 @@ gather-all-requires c κs =
     record {
       few-subjects = sized .subjects;
       few-roles = sized .roles;
-      table = product-within (e .args .subjects) (e .args .roles) 48 48 _ (sized .subjects) (sized .roles) (sized .assignment);
+      table = product-within (e .args .c .subjects) (e .args .c .roles) 48 48 _ (sized .subjects) (sized .roles) (sized .assignment);
       places = omega arith;
       counted = omega arith;
     }

@@ -1,6 +1,6 @@
 -- `flow::close_channels` meets its contract: the rows that close the channel table are the sheet's flow table.
 use borrow.Author.Needs.{needs}
-use Rattle.answers.specs.Sheet.{Lent, counts, lent}
+use Rattle.answers.specs.Sheet.{Lent, lent}
 use Rattle.access.proofs.Filling.{entities-fit, filled-room}
 use Rattle.flow.proofs.Closing.{closed, table-fits}
 use Rattle.flow.proofs.close_channels.Statement.{statement}
@@ -8,7 +8,7 @@ use Rattle.flow.proofs.close_channels.Tie as tie
 
 -- what is lent
 abbrev of : tie.Start → Lent
-of c = lent (counts (c .args .subjects) (c .args .objects) (c .args .roles)) (c .args .assignment .now) (c .args .permission .now)
+of c = lent (c .args .c) (c .args .assignment .now) (c .args .permission .now)
 
 add-n : tie.Need-add-n
 add-n c = search needs
@@ -24,7 +24,7 @@ slice-aggregate-fill-rows c = search needs
 
 fill-rows-requires : tie.Need-fill-rows-requires
 fill-rows-requires c κs =
-    let e = c .before .before .before .before .before .before .before .before in
+    let e = c .before .before .before .before .before .before .before .before .before in
     let fits = table-fits (of e) _ (e .pre) in
     (entities-fit (of e) (e .pre .sized), filled-room (c .before .before .before .fill-channels .ensures), fits)
 
@@ -33,7 +33,7 @@ same-length c = search needs
 
 returns : tie.Need-returns
 returns c =
-    let e = c .before .before .before .before .before .before .before .before .before .before .before in
+    let e = c .before .before .before .before .before .before .before .before .before .before .before .before in
     closed (of e) _ _ _ _ (c .before .before .before .before .before .before .fill-channels .ensures) (c .before .before .fill-rows .ensures)
 
 pub close-channels-spec : {M : Type 1} → statement M
