@@ -1,10 +1,11 @@
--- What functions that read a text tell each other. No promise: it only ties functions together.
+-- What functions that read or write a text tell each other. No promise: it only ties functions together.
 use Prim.Native.Nat.{ℕ, _+_, _*_, _≤_, _<_}
 use mathlib.Core.Path.{_≡_}
 use mathlib.Core.Logic.{_≢_}
 use mathlib.Core.Bool.{true, cond}
 use mathlib.Core.List.{List}
 use lib.ListN.{length, getD}
+use lib.Seq.{sets}
 use Rattle.digits.specs.declared.Digit.{Digit}
 use Rattle.digits.specs.declared.Digit.the-variants.{Value, NotDigit}
 use Rattle.digits.specs.Digit.{isDigit, digitValue}
@@ -30,3 +31,8 @@ pub record EndsAt (text : List ℕ) (p e : ℕ) : Type 0 where
   pub within : e ≤ length text
   pub none : (i : ℕ) → p ≤ i → i < e → getD text i 0 ≢ feed
   pub fed : e < length text → getD text e 0 ≡ feed
+
+-- bytes are written at a place of the text, and the next place is past them
+pub record Put (bytes : List ℕ) (at : ℕ) (before : List ℕ) (next : ℕ) (after : List ℕ) : Type 0 where
+  pub place : next ≡ at + length bytes
+  pub text : after ≡ sets before at bytes

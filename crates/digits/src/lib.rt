@@ -1,11 +1,13 @@
 // Digits of lowercase hexadecimal, and a text as lines.
 ghost use mathlib.Core.Path.{_≡_};
 ghost use mathlib.Core.Bool.{true};
-ghost use Prim.Native.Nat.{_+_, _<_, _≤_};
+ghost use mathlib.Core.List.{[], _∷_};
+ghost use Prim.Native.Nat.{_+_, _*_, _<_, _≤_};
 ghost use lib.ListN.{length, drop};
-ghost use Rattle.digits.specs.Digit.{isDigit, digitValue, digitByte, digitPairs};
-ghost use Rattle.digits.specs.Line.{lineStart, lineEnd};
-ghost use Rattle.digits.specs.Inner.{digitOf, byteAt, DigitsAt, EndsAt};
+ghost use lib.Seq.{sets};
+ghost use Rattle.digits.specs.Digit.{isDigit, digitValue, digitByte, digitPairs, toDigits};
+ghost use Rattle.digits.specs.Line.{lineStart, lineEnd, lineOf};
+ghost use Rattle.digits.specs.Inner.{digitOf, byteAt, DigitsAt, EndsAt, Put};
 
 // A byte of the text as a digit.
 pub enum Digit {
@@ -97,7 +99,7 @@ pub fn end_of_line(text: &[u8], p: usize) -> usize
     i
 }
 
-// ---- writing a digit, and the places of a line
+// ---- writing bytes as digits, and a line of them
 
 // The digit of a value below 16.
 pub fn digit_byte(v: u8) -> u8
@@ -106,6 +108,40 @@ pub fn digit_byte(v: u8) -> u8
 {
     if v < 10 { b'0' + v } else { (b'a' - 10) + v }
 }
+
+// A byte as two digits, the high one first.
+fn put_byte(text: &mut [u8], at: usize, b: u8)
+    requires { ⌜ at + 2 ≤ length (now text) ⌝ }
+    ensures { λ _. ⌜ now (text .exit) ≡ sets (now (text .entry)) at (toDigits (b ∷ [])) ⌝ }
+{
+    text[at] = digit_byte(b / 16);
+    text[at + 1] = digit_byte(b % 16);
+}
+
+// The digits of bytes; the answer is the place past them.
+pub fn put_bytes(text: &mut [u8], at: usize, bytes: &[u8]) -> usize
+    requires { ⌜ at + 2 * length (now bytes) ≤ length (now text) ⌝ }
+    ensures { λ r. ⌜ Put (toDigits (now (bytes .entry))) at (now (text .entry)) r (now (text .exit)) ⌝ }
+{
+    let mut i = 0;
+    while i < bytes.len() {
+        put_byte(text, at + 2 * i, bytes[i]);
+        i += 1;
+    }
+    at + 2 * i
+}
+
+// The line of bytes; the answer is the place past it.
+pub fn put_line(text: &mut [u8], at: usize, bytes: &[u8]) -> usize
+    requires { ⌜ at + 2 * length (now bytes) < length (now text) ⌝ }
+    ensures { λ r. ⌜ Put (lineOf (now (bytes .entry))) at (now (text .entry)) r (now (text .exit)) ⌝ }
+{
+    let end = put_bytes(text, at, bytes);
+    text[end] = b'\n';
+    end + 1
+}
+
+// ---- the places of a line
 
 // The end of the line that begins at `at`: its line feed, or the text's end.
 fn end_from(text: &[u8], at: usize) -> usize

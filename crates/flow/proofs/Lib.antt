@@ -4,6 +4,7 @@ pub mod Judged
 pub mod Refusing
 pub mod Answering
 pub mod Outcomes
+pub mod Unrefused
 pub mod Chosen
 pub mod Closing
 pub mod Determined

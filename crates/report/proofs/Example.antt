@@ -1,12 +1,14 @@
--- The whole output for a sheet of one subject, for the least sheet, and for a text that is refused.
+-- The whole output for a sheet of one subject, for the least sheet, and for a text that is refused; and what `report` makes of them.
 use Prim.Native.Nat.{ℕ, zero, suc, _<_}
 use mathlib.Core.Path.{_≡_, refl}
 use mathlib.Core.List.{List, [], _∷_}
 use native.Mathlib.Omega.{arith}
 use lib.Dec.{lit<}
-use lib.ListN.{getD}
-use Rattle.answers.specs.Rows.{Mark, one, count}
+use lib.ListN.{getD, replicate}
+use Rattle.answers.specs.Call.{firstRefusal, told}
+use Rattle.answers.specs.Rows.{Mark, one, count, over}
 use Rattle.answers.specs.Sheet.{Sheet, counts}
+use Rattle.answers.proofs.Calls.{accept}
 use Rattle.theory.specs.Flow.{Flow, here}
 use Rattle.theory.proofs.Orders.{isolated}
 use Rattle.digits.specs.Digit.{digitByte, toDigits}
@@ -18,6 +20,8 @@ use Rattle.text.specs.Reading.{readText}
 use Rattle.text.proofs.Worked.{reading}
 use Rattle.verdict.specs.Judge.{AllHold}
 use Rattle.report.specs.Output.{EntityLine, none, next, hold, refusalLine, refusal, sheet-lines, Output}
+use Rattle.report.specs.Report.{leastOutput, reportRefusals, Reports}
+use Rattle.report.proofs.Reporting.{too-short}
 
 abbrev lone : Sheet
 lone = record { counts = counts 1 0 0; assignment = []; permission = []; separations = [] }
@@ -70,3 +74,24 @@ empty-output = refusal refl
 late-line : refusalLine 7 258 ≡ codes "80070102\n"
 unfolding codes digitByte toDigits lineOf refusalLine
 late-line = refl
+
+-- ---- the call
+buffer : List ℕ
+buffer = replicate leastOutput 9
+
+full : firstRefusal (reportRefusals buffer) ≡ 0
+unfolding buffer reportRefusals firstRefusal
+full = refl
+
+-- an accepted sheet and a refused text, each with its output's length and the output in front of what the buffer held
+lone-reported : Reports (codes "01010000\n050001\n") buffer (told 0 16, over (codes "8100000301\n8200\n") buffer)
+unfolding codes
+lone-reported = accept full (record { printed = codes "8100000301\n8200\n"; output = lone-output; written = refl })
+
+empty-reported : Reports [] buffer (told 0 9, over (codes "80090001\n") buffer)
+unfolding codes
+empty-reported = accept full (record { printed = codes "80090001\n"; output = empty-output; written = refl })
+
+-- a buffer that is too short: 1, and nothing is written
+short-reported : Reports [] (9 ∷ []) (told 1 0, 9 ∷ [])
+short-reported = too-short [] (9 ∷ []) (lit< tt)

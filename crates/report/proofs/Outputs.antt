@@ -1,13 +1,19 @@
--- The whole output is one for each text.
+-- The whole output is one for each text, and the contract of `report` determines its answer and the lent buffer.
 use Prim.Native.Nat.{ℕ}
-use mathlib.Core.Path.{_≡_, refl, sym, ap₂, _∙_}
+use mathlib.Core.Path.{_≡_, refl, sym, ap, ap₂, _∙_}
 use mathlib.Core.List.{List, _++_}
+use lib.ListN.{length}
+use Rattle.answers.specs.declared.Told.{Told}
+use Rattle.answers.specs.Call.{told}
+use Rattle.answers.specs.Rows.{over}
 use Rattle.answers.specs.Sheet.{Sheet}
+use Rattle.answers.proofs.Calls.{determined}
 use Rattle.theory.proofs.Orders.{one-class, one-greatest, one-size}
 use Rattle.digits.specs.Line.{lineOf}
 use Rattle.text.specs.Reading.{Read}
 use Rattle.verdict.proofs.Verdicts.{one-finding, not-both}
 use Rattle.report.specs.Output.{EntityLine, EntityLines, none, next, VerdictLine, hold, broken, SheetLines, Printed, refusal, sheet-lines, Output}
+use Rattle.report.specs.Report.{Reports}
 
 module _ {n : ℕ} {R : ℕ → ℕ → Type 0} where
   one-entity-line : {x : ℕ} {a b : List ℕ} → EntityLine n R x a → EntityLine n R x b → a ≡ b
@@ -39,3 +45,9 @@ one-print (sheet-lines p) (sheet-lines q) = one-sheet p q
 
 pub output-determined : (text a b : List ℕ) → Output text a → Output text b → a ≡ b
 output-determined text a b = one-print
+
+pub report-determined : (text before : List ℕ) (r₁ r₂ : Told × List ℕ) → Reports text before r₁ → Reports text before r₂ → r₁ ≡ r₂
+report-determined text before r₁ r₂ =
+    determined
+    (λ _ a b.
+    a .written ∙ ap (λ (p : List ℕ). (told 0 (length p), over p before)) (output-determined text _ _ (a .output) (b .output)) ∙ sym (b .written))

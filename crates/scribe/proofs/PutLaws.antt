@@ -1,21 +1,18 @@
 -- Lines written one after another: what was written first and then more is written as one.
-use Prim.Native.Nat.{ℕ, suc, _+_, _≤_}
+use Prim.Native.Nat.{ℕ, _+_, _≤_}
 use mathlib.Core.Path.{_≡_, ap, refl, sym, _∙_}
 use mathlib.Core.List.{List, [], _∷_, _++_, append-assoc, append-nil}
-use native.Mathlib.Nat.{add-zero, suc-add, add-suc}
 use native.Mathlib.Omega.{arith}
-use lib.ListN.{length, set, length-append}
-use lib.Seq.{sets, length-sets}
+use lib.ListN.{length, length-append}
+use lib.Seq.{length-sets}
 use Rattle.digits.specs.Digit.{toDigits}
 use Rattle.digits.specs.Line.{lineOf}
+use Rattle.digits.specs.Inner.{Put}
+use Rattle.digits.proofs.Puts.{sets-append}
 use Rattle.frames.specs.declared.Frame.{Frame}
 use Rattle.frames.specs.Frame.{frameBytes, textOf}
 use Rattle.scribe.specs.declared.Pen.{Pen}
-use Rattle.scribe.specs.Put.{Put, Puts, Room}
-
-sets-append : (l : List ℕ) (i : ℕ) (a b : List ℕ) → sets l i (a ++ b) ≡ sets (sets l i a) (i + length a) b
-sets-append l i [] b = rw add-zero
-sets-append l i (x ∷ a) b = sets-append (set l i x) (suc i) a b ∙ rw (suc-add, add-suc)
+use Rattle.scribe.specs.Put.{Puts, Room}
 
 -- ---- the text of frames
 pub text-append : (fs gs : List Frame) → textOf (fs ++ gs) ≡ textOf fs ++ textOf gs

@@ -16,11 +16,6 @@ use Rattle.scribe.specs.declared.Pen.{Pen}
 abbrev pub penAt : ℕ → ℕ → Pen
 penAt at lines = record { at = at; lines = lines }
 
--- bytes are written at a place, and the next place is past them
-pub record Put (bytes : List ℕ) (at : ℕ) (before : List ℕ) (next : ℕ) (after : List ℕ) : Type 0 where
-  pub place : next ≡ at + length bytes
-  pub text : after ≡ sets before at bytes
-
 -- the lines of frames are written where the pen stands, and the pen stands past them
 pub record Puts (frames : List Frame) (pen : Pen) (before : List ℕ) (next : Pen) (after : List ℕ) : Type 0 where
   pub place : next .at ≡ pen .at + length (textOf frames)

@@ -3,14 +3,13 @@ ghost use mathlib.Core.Path.{_≡_};
 ghost use mathlib.Core.List.{[], _∷_};
 ghost use Prim.Native.Nat.{_+_, _*_, _<_, _≤_};
 ghost use lib.ListN.{length, take};
-ghost use lib.Seq.{sets};
 ghost use Rattle.answers.specs.Sheet.{lent, sheetOf};
-ghost use Rattle.digits.specs.Digit.{toDigits};
 ghost use Rattle.digits.specs.Line.{lineOf};
+ghost use Rattle.digits.specs.Inner.{Put};
 ghost use Rattle.frames.specs.declared.Frame.the-variants.{Header};
 ghost use Rattle.frames.specs.Frame.{frameBytes};
 ghost use Rattle.text.specs.Content.{present, assignAt, permitAt, separates, closing};
-ghost use Rattle.scribe.specs.Put.{penAt, Put, Puts, Room, shown, InRows, Table, Ready, Written};
+ghost use Rattle.scribe.specs.Put.{penAt, Puts, Room, shown, InRows, Table, Ready, Written};
 
 const HEADER: u8 = 1;
 
@@ -28,25 +27,13 @@ pub struct Pen {
     pub lines: usize,
 }
 
-// A byte as two digits, the high one first.
-fn put_byte(text: &mut [u8], at: usize, b: u8)
-    requires { ⌜ at + 2 ≤ length (now text) ⌝ }
-    ensures { λ r. ⌜ now (text .exit) ≡ sets (now (text .entry)) at (toDigits (b ∷ [])) ⌝ }
-{
-    text[at] = digits::digit_byte(b / 16);
-    text[at + 1] = digits::digit_byte(b % 16);
-}
-
 // A line of three bytes; the answer is the place past it.
 fn put_three(text: &mut [u8], at: usize, kind: u8, a: u8, b: u8) -> usize
     requires { ⌜ at + 7 ≤ length (now text) ⌝ }
     ensures { λ r. ⌜ Put (lineOf (kind ∷ a ∷ b ∷ [])) at (now (text .entry)) r (now (text .exit)) ⌝ }
 {
-    put_byte(text, at, kind);
-    put_byte(text, at + 2, a);
-    put_byte(text, at + 4, b);
-    text[at + 6] = b'\n';
-    at + 7
+    let bytes = [kind, a, b];
+    digits::put_line(text, at, &bytes)
 }
 
 // A line of four bytes.
@@ -54,12 +41,8 @@ fn put_four(text: &mut [u8], at: usize, kind: u8, a: u8, b: u8, c: u8) -> usize
     requires { ⌜ at + 9 ≤ length (now text) ⌝ }
     ensures { λ r. ⌜ Put (lineOf (kind ∷ a ∷ b ∷ c ∷ [])) at (now (text .entry)) r (now (text .exit)) ⌝ }
 {
-    put_byte(text, at, kind);
-    put_byte(text, at + 2, a);
-    put_byte(text, at + 4, b);
-    put_byte(text, at + 6, c);
-    text[at + 8] = b'\n';
-    at + 9
+    let bytes = [kind, a, b, c];
+    digits::put_line(text, at, &bytes)
 }
 
 // A frame's line.

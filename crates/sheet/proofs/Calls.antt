@@ -42,10 +42,10 @@ abbrev pub WritesRead : ReadResult → List ℕ → Told × List ℕ → Type 0
 WritesRead result = Writes (tablesIn result) (result .reading .separations) (result .separations)
 
 module _ (assignment permission separations : List ℕ) (t : Sheet) (p : Sound t) where
-  abbrev filled : ReadResult
+  abbrev pub filled : ReadResult
   filled = tablesRead assignment permission separations t
 
-  sheet-back : sheetRead filled ≡ t
+  pub sheet-back : sheetRead filled ≡ t
   unfolding sheetOf
   sheet-back =
       simp (

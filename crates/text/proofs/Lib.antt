@@ -13,3 +13,5 @@ pub mod Size
 -- the printed sheet, and both round trips
 pub mod Worked
 pub mod RoundTrip
+-- what is refused, and at which line
+pub mod RefusedLines

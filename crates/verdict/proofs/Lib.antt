@@ -3,6 +3,7 @@ pub mod Verdicts
 pub mod Showing
 pub mod Judging
 pub mod Bounds
+pub mod Longest
 pub mod Findings
 pub mod Instances
 pub mod Determined

@@ -1,11 +1,11 @@
--- `scribe::put_byte` meets its contract: two digits are set.
+-- `digits::put_byte` meets its contract: two digits are set.
 use borrow.Author.Needs.{needs}
 use native.Mathlib.Omega.{arith}
 use native.Mathlib.Numerals.{add-one}
 use lib.ListN.{length-set}
 use Rattle.digits.specs.Digit.{toDigits}
-use Rattle.scribe.proofs.put_byte.Statement.{statement}
-use Rattle.scribe.proofs.put_byte.Tie as tie
+use Rattle.digits.proofs.put_byte.Statement.{statement}
+use Rattle.digits.proofs.put_byte.Tie as tie
 
 digit-byte-requires : tie.Need-digit-byte-requires
 digit-byte-requires c κs = search needs
@@ -30,4 +30,5 @@ unfolding toDigits
 returns c = rw (c .before .digit-byte .ensures, c .digit-byte2 .ensures, add-one)
 
 pub put-byte-spec : {M : Type 1} → statement M
-put-byte-spec = tie.close (tie.spec digit-byte-requires slice-write-text digit-byte-requires-2 add-text slice-write-text-2 same-length returns)
+put-byte-spec =
+    tie.close (tie.spec digit-byte-requires slice-write-text digit-byte-requires-2 add-text slice-write-text-2 same-length returns)

@@ -1,0 +1,127 @@
+-- The ends of `report` and of its functions, return by return.
+use Prim.Native.Nat.{ℕ, _+_, _*_, _/_, _≤_, _<_}
+use mathlib.Core.Path.{_≡_, refl, sym, ap, _∙_}
+use mathlib.Core.Logic.{_≢_}
+use mathlib.Core.List.{List, _++_}
+use native.Mathlib.Omega.{arith}
+use borrow.Author.Tests.{lt-ltb, le-ltb}
+use lib.ListN.{length}
+use Rattle.answers.specs.Call.{firstRefusal, told}
+use Rattle.answers.specs.Rows.{Bytes, over, shorter}
+use Rattle.answers.specs.Sizes.{leastFlow, leastAssignment, leastPermission, leastSeparations}
+use Rattle.answers.specs.Sheet.{Lent, Sheet, Sound, lent, sheetIn, sheetOf, entities}
+use Rattle.answers.specs.Inner.{Sized}
+use Rattle.answers.proofs.Calls.{refuse, accept}
+use Rattle.answers.proofs.Accepted.{tables-pass}
+use Rattle.answers.proofs.Sounds.{sized-of, listed-of}
+use Rattle.theory.proofs.Orders.{agree-turned}
+use Rattle.digits.specs.Line.{lineOf}
+use Rattle.digits.specs.Inner.{Put}
+use Rattle.digits.proofs.Puts.{put-then, put-over}
+use Rattle.text.specs.Reading.{Read, refused, accepted, readText}
+use Rattle.text.proofs.RoundTrip.{accepted-sound}
+use Rattle.text.proofs.RefusedLines.{refused-line-fits}
+use Rattle.sheet.specs.Read.{ReadResult, readResult, tablesRead, Reads}
+use Rattle.sheet.proofs.ReadDone.{ReadLong, lengths-pass, ReadDone, read-done}
+use Rattle.sheet.proofs.Calls.{tablesIn, sheetRead, sheet-back}
+use Rattle.access.specs.Channel.{Channel}
+use Rattle.access.proofs.Filling.{entities-fit}
+use Rattle.flow.specs.Fill.{fillRefusals, Fills}
+use Rattle.flow.specs.Inner.{Accepted}
+use Rattle.flow.proofs.Filled.{LeftBy, filled-agrees}
+use Rattle.flow.proofs.Unrefused.{filled-accepted}
+use Rattle.report.specs.Output.{EntityLines, VerdictLine, SheetLines, refusalLine, refusal, sheet-lines, Output}
+use Rattle.report.specs.Report.{leastOutput, reportRefusals, Reported, Reports}
+use Rattle.report.specs.Inner.{PutLine, PutOutput, Printable}
+use Rattle.report.proofs.EachLine.{lines-agree}
+use Rattle.report.proofs.VerdictLines.{verdict-used}
+use Rattle.report.proofs.Sizes.{output-fits}
+
+-- ---- the flow table of an accepted sheet
+module _ (l : Lent) (count : ℕ) (separations : List ℕ) (p : Printable l count separations) (before table : List ℕ) (answer : ℕ) (room : leastFlow ≤ length before) (call : Fills l before (answer, table)) where
+  -- it is filled
+  pub is-filled : LeftBy (sheetIn l) before table
+  unfolding fillRefusals
+  is-filled =
+      let f = call .done (tables-pass _ _ l (record { not-short = le-ltb _ _ room; not-long = refl; sized = p .sized })) in
+      record { table = f .table; marked = f .marked; written = ap (λ (r : ℕ × List ℕ). (0, r .1)) (f .written) }
+
+  -- and can be asked
+  pub is-accepted : leastFlow ≤ length table → Accepted (entities (l .counts)) table
+  unfolding sheetOf
+  is-accepted long = filled-accepted (sheetIn l) before table is-filled (entities-fit l (p .sized)) long
+
+  -- its lines and the line of the verdict are those of the sheet
+  pub sheet-put : {out text after : List ℕ} {at next : ℕ} → PutOutput (EntityLines (entities (l .counts)) (Bytes (entities (l .counts)) table) (entities (l .counts))) out at text →
+      PutLine (VerdictLine (Channel (sheetOf l count separations)) count separations) at text next after → PutOutput (SheetLines (sheetOf l count separations)) out next after
+  unfolding sheetOf
+  sheet-put e v =
+      record {
+        printed = e .printed ++ lineOf (v .line);
+        right =
+            record {
+              entity-lines = e .printed;
+              verdict-line = v .line;
+              each = lines-agree (agree-turned (filled-agrees (sheetIn l) before table is-filled)) (omega arith) (e .right);
+              verdict = verdict-used count separations (omega (arith, p .listed .few, p .long)) (v .right);
+              whole = refl;
+            };
+        put = put-then (e .put) (v .put);
+      }
+
+-- ---- what was read
+module _ (text assignment permission separations : List ℕ) (long : ReadLong assignment permission separations) (result : ReadResult) (r : Reads text assignment permission separations result) where
+  pub is-refused : result .reading .answer ≢ 0 → readText text ≡ refused (result .reading .answer) (result .reading .line)
+  unfolding readResult
+  is-refused some = go (readText text) (r .done (lengths-pass assignment permission separations long))
+    where
+      go : (x : Read) → result ≡ readResult assignment permission separations x → x ≡ refused (result .reading .answer) (result .reading .line)
+      go (refused n line) e = rw e
+      go (accepted t) e = absurd (some (ap (λ (x : ReadResult). x .reading .answer) e))
+
+  pub line-fits : result .reading .answer ≢ 0 → result .reading .line < 65536
+  line-fits some = omega (arith, refused-line-fits text _ _ (is-refused some))
+
+-- the tables of an accepted text are those of its sheet
+module _ {text assignment permission separations : List ℕ} {result : ReadResult} (d : ReadDone assignment permission separations text result) where
+  same-sheet : sheetRead result ≡ d .sheet
+  same-sheet = ap sheetRead (d .filled) ∙ sheet-back assignment permission separations (d .sheet) (accepted-sound text (d .reads))
+
+  sound : Sound (sheetRead result)
+  sound = rw same-sheet (accepted-sound text (d .reads))
+
+  few : 2 * (result .reading .separations) ≤ leastSeparations
+  few = rw (d .filled) (omega (arith, accepted-sound text (d .reads) .separations-size, accepted-sound text (d .reads) .separations-fit))
+
+  pub is-printable : leastAssignment ≤ length (result .assignment) → leastPermission ≤ length (result .permission) → leastSeparations ≤ length (result .separations) →
+      Printable (tablesIn result) (result .reading .separations) (result .separations)
+  is-printable a p s =
+      record {
+        sized = sized-of (tablesIn result) _ (result .separations) sound a p;
+        listed = listed-of (tablesIn result) _ (result .separations) sound (omega (arith, few));
+        long = s;
+      }
+
+  pub sheet-printed : {out : List ℕ} → SheetLines (sheetRead result) out → Output text out
+  sheet-printed l = rw (d .reads) (sheet-lines (rw same-sheet at l))
+
+-- ---- the call
+module _ (text before : List ℕ) where
+  pub too-short : length before < leastOutput → Reports text before (told 1 0, before)
+  unfolding reportRefusals firstRefusal
+  too-short h = refuse 1 (rw (lt-ltb _ _ h)) (λ z. omega arith) refl
+
+  module _ (room : leastOutput ≤ length before) where
+    reported : {printed : List ℕ} {next : ℕ} {after : List ℕ} → Output text printed → Put printed 0 before next after → Reports text before (told 0 next, after)
+    unfolding reportRefusals firstRefusal
+    reported {printed} o p =
+        let w = put-over (omega (arith, output-fits text printed o)) p in
+        accept (rw (le-ltb _ _ room)) (record { printed = printed; output = o; written = rw (w .0, w .1) })
+
+    pub refused-reported : (n line : ℕ) {next : ℕ} {after : List ℕ} → readText text ≡ refused n line → Put (refusalLine n line) 0 before next after →
+        Reports text before (told 0 next, after)
+    refused-reported n line e = reported (rw e (refusal refl))
+
+    pub sheet-reported : {assignment permission separations : List ℕ} {result : ReadResult} {next : ℕ} {after : List ℕ} → ReadDone assignment permission separations text result →
+        PutOutput (SheetLines (sheetRead result)) before next after → Reports text before (told 0 next, after)
+    sheet-reported d p = reported (sheet-printed d (p .right)) (p .put)
