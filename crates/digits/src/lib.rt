@@ -102,7 +102,7 @@ pub fn end_of_line(text: &[u8], p: usize) -> usize
 // ---- writing bytes as digits, and a line of them
 
 // The digit of a value below 16.
-pub fn digit_byte(v: u8) -> u8
+fn digit_byte(v: u8) -> u8
     requires { ⌜ v < 16 ⌝ }
     ensures { λ r. ⌜ r ≡ digitByte v ⌝ }
 {

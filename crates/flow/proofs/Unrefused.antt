@@ -1,5 +1,5 @@
 -- A table that filling wrote is refused by no question on an entity of the sheet.
-use Prim.Native.Nat.{ℕ, _+_, _*_, _/_, _%_, _≤_, _<_}
+use Prim.Native.Nat.{ℕ, _*_, _/_, _%_, _≤_, _<_}
 use mathlib.Core.Path.{_≡_, sym, ap}
 use mathlib.Core.Bool.{Bool, false}
 use mathlib.Core.List.{List}
@@ -8,7 +8,7 @@ use native.Mathlib.Omega.{arith}
 use borrow.Author.Tests.{ne-eqb}
 use lib.ListN.{length, getD}
 use Rattle.answers.specs.Call.{firstRefusal, _then_}
-use Rattle.answers.specs.Rows.{at, Mark, Marked, over}
+use Rattle.answers.specs.Rows.{at, Marked, over}
 use Rattle.answers.specs.Sizes.{mostEntities, leastFlow}
 use Rattle.answers.specs.Sheet.{Sheet, entities}
 use Rattle.answers.proofs.Accepted.{all-within}

@@ -48,6 +48,7 @@ fn read_all(buffer: &mut [u8]) -> Input
     }
 }
 
+// Writes the whole output for a text to standard output.
 fn print(text: &[u8]) {
     let mut out = [0u8; 1435];
     let told = report::report(text, &mut out);

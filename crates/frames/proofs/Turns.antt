@@ -33,7 +33,7 @@ checking-start t k e =
     (record { verdict = refl; passed = refl; few-lines = omega arith; few-separations = omega arith; near = omega arith })
 
 -- a line more is counted once at most
-more-lines : (k : Passed) (x : Parsed) → nextLine k x .lines ≤ k .lines + 1
+pub more-lines : (k : Passed) (x : Parsed) → nextLine k x .lines ≤ k .lines + 1
 unfolding nextLine next
 more-lines k NoBytes = omega arith
 more-lines k NoFrame = omega arith

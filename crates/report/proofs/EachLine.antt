@@ -1,12 +1,12 @@
 -- The lines of the entities, one after another; and that a filled table gives those of the sheet's flow.
-use Prim.Native.Nat.{ℕ, zero, suc, _+_, _*_, _≤_, _<_}
+use Prim.Native.Nat.{ℕ, _+_, _*_, _≤_, _<_}
 use mathlib.Core.Path.{_≡_, refl}
-use mathlib.Core.List.{List, [], _∷_, _++_}
+use mathlib.Core.List.{List, [], _++_}
 use native.Mathlib.Nat.{le-antisymm}
 use native.Mathlib.Numerals.{add-one}
 use native.Mathlib.Omega.{arith}
 use lib.ListN.{length, length-append}
-use Rattle.theory.proofs.Orders.{Agree, agree-turned, equal-answers}
+use Rattle.theory.proofs.Orders.{Agree, equal-answers}
 use Rattle.digits.specs.Line.{lineOf}
 use Rattle.digits.proofs.Puts.{put-none, put-then, put-long, line-long}
 use Rattle.report.specs.Output.{EntityLine, EntityLines, none, next}
@@ -19,7 +19,7 @@ module _ {n : ℕ} {R : ℕ → ℕ → Type 0} where
 
   pub lines-long : {k : ℕ} {out : List ℕ} → EntityLines n R k out → length out ≡ 11 * k
   lines-long none = refl
-  lines-long (next {out = out} {bytes = bytes} p l) = omega (arith, lines-long p, length-append out (lineOf bytes), entity-line-long l)
+  lines-long (next p l) = simp length-append (omega (arith, lines-long p, entity-line-long l))
 
   -- ---- written one after another
   pub lines-none : (before : List ℕ) → PutOutput (EntityLines n R 0) before 0 before

@@ -15,8 +15,6 @@ use Rattle.digits.specs.Digit.{digitByte, toDigits}
 use Rattle.digits.specs.Line.{lineOf}
 use Rattle.digits.proofs.Text.{codes}
 use Rattle.access.specs.Channel.{Channel, reads, writes}
-use Rattle.text.specs.Content.{blank}
-use Rattle.text.specs.Reading.{readText}
 use Rattle.text.proofs.Worked.{reading}
 use Rattle.verdict.specs.Judge.{AllHold}
 use Rattle.report.specs.Output.{EntityLine, none, next, hold, refusalLine, refusal, sheet-lines, Output}

@@ -1,6 +1,6 @@
 -- The ends of `report` and of its functions, return by return.
-use Prim.Native.Nat.{ℕ, _+_, _*_, _/_, _≤_, _<_}
-use mathlib.Core.Path.{_≡_, refl, sym, ap, _∙_}
+use Prim.Native.Nat.{ℕ, _+_, _*_, _≤_, _<_}
+use mathlib.Core.Path.{_≡_, refl, ap, _∙_}
 use mathlib.Core.Logic.{_≢_}
 use mathlib.Core.List.{List, _++_}
 use native.Mathlib.Decide.{ℕ-discrete}
@@ -9,10 +9,9 @@ use borrow.Author.Tests.{lt-ltb, le-ltb, ltb-false}
 use lib.ListN.{length}
 use Rattle.answers.specs.declared.Told.{Told}
 use Rattle.answers.specs.Call.{firstRefusal, told}
-use Rattle.answers.specs.Rows.{Bytes, over, shorter}
+use Rattle.answers.specs.Rows.{Bytes}
 use Rattle.answers.specs.Sizes.{leastFlow, leastAssignment, leastPermission, leastSeparations}
-use Rattle.answers.specs.Sheet.{Lent, Sheet, Sound, lent, sheetIn, sheetOf, entities}
-use Rattle.answers.specs.Inner.{Sized}
+use Rattle.answers.specs.Sheet.{Lent, Sound, sheetIn, sheetOf, entities}
 use Rattle.answers.proofs.Calls.{passed, refuse, accept}
 use Rattle.answers.proofs.Accepted.{tables-pass}
 use Rattle.answers.proofs.Sounds.{sized-of, listed-of}
@@ -23,8 +22,8 @@ use Rattle.digits.proofs.Puts.{put-then, put-over}
 use Rattle.text.specs.Reading.{Read, refused, accepted, readText}
 use Rattle.text.proofs.RoundTrip.{accepted-sound}
 use Rattle.text.proofs.RefusedLines.{refused-line-fits}
-use Rattle.sheet.specs.Read.{ReadResult, readResult, tablesRead, Reads}
-use Rattle.sheet.proofs.ReadDone.{ReadLong, lengths-pass, ReadDone, read-done}
+use Rattle.sheet.specs.Read.{ReadResult, readResult, Reads}
+use Rattle.sheet.proofs.ReadDone.{ReadLong, lengths-pass, ReadDone}
 use Rattle.sheet.proofs.Calls.{tablesIn, sheetRead, sheet-back}
 use Rattle.access.specs.Channel.{Channel}
 use Rattle.access.proofs.Filling.{entities-fit}
@@ -33,7 +32,7 @@ use Rattle.flow.specs.Inner.{Accepted}
 use Rattle.flow.proofs.Filled.{LeftBy, filled-agrees}
 use Rattle.flow.proofs.Unrefused.{filled-accepted}
 use Rattle.report.specs.Output.{EntityLines, VerdictLine, SheetLines, refusalLine, refusal, sheet-lines, Output}
-use Rattle.report.specs.Report.{leastOutput, reportRefusals, Reported, Reports}
+use Rattle.report.specs.Report.{leastOutput, reportRefusals, Reports}
 use Rattle.report.specs.Inner.{PutLine, PutOutput, Printable}
 use Rattle.report.proofs.EachLine.{lines-agree}
 use Rattle.report.proofs.VerdictLines.{verdict-used}

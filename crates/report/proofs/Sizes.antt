@@ -1,13 +1,12 @@
 -- No output is longer than the least length of the buffer that it is written to.
 use Prim.Native.Nat.{ℕ, _≤_}
 use mathlib.Core.Path.{_≡_, refl}
-use mathlib.Core.List.{List, []}
+use mathlib.Core.List.{List}
 use native.Mathlib.Omega.{arith}
 use lib.ListN.{length, length-append}
 use Rattle.answers.specs.Sheet.{Sheet, Sound}
-use Rattle.digits.specs.Line.{lineOf}
 use Rattle.digits.proofs.Puts.{line-long}
-use Rattle.text.specs.Reading.{Read, accepted, readText}
+use Rattle.text.specs.Reading.{Read, accepted}
 use Rattle.text.proofs.RoundTrip.{accepted-sound}
 use Rattle.report.specs.Output.{SheetLines, refusalLine, Printed, refusal, sheet-lines, Output}
 use Rattle.report.specs.Report.{leastOutput}
@@ -21,15 +20,8 @@ refusal-long n line = line-long _
 sheet-fits : {t : Sheet} {out : List ℕ} → Sound t → SheetLines t out → length out ≤ leastOutput
 sheet-fits {t} s l =
     rw (l .whole)
-    (omega (
-      arith,
-      length-append (l .entity-lines) (lineOf (l .verdict-line)),
-      lines-long (l .each),
-      line-long (l .verdict-line),
-      line-short t (s .subjects-fit) (l .verdict),
-      s .subjects-fit,
-      s .objects-fit,
-    ))
+    (simp length-append
+    (omega (arith, lines-long (l .each), line-long (l .verdict-line), line-short t (s .subjects-fit) (l .verdict), s .subjects-fit, s .objects-fit)))
 
 print-fits : {r : Read} {out : List ℕ} → ((t : Sheet) → r ≡ accepted t → Sound t) → Printed r out → length out ≤ leastOutput
 print-fits sound (refusal {n = n} {line = line} e) = rw (e, refusal-long n line) (omega arith)

@@ -1,20 +1,18 @@
 -- The line of the verdict: what `judge` tells is what it prints, the line is short, and separations in a buffer are those of the sheet.
 use Prim.Native.Nat.{ℕ, _+_, _*_, _/_, _≤_, _<_}
-use mathlib.Core.Path.{_≡_, refl, sym, ap}
+use mathlib.Core.Path.{_≡_, refl, ap}
 use mathlib.Core.Logic.{_≢_}
 use mathlib.Core.List.{List, [], _∷_}
 use native.Mathlib.Omega.{arith}
 use borrow.Author.Tests.{le-ltb}
 use lib.Dec.{lit≤}
-use lib.ListN.{length, getD, take}
+use lib.ListN.{length, take}
 use lib.Seq.{getD-take, length-take-le}
 use Rattle.answers.specs.Call.{firstRefusal}
 use Rattle.answers.specs.Sizes.{mostSubjects, leastChain}
 use Rattle.answers.specs.Sheet.{Lent, Sheet, sheetOf, from, to}
 use Rattle.answers.proofs.Calls.{pass-then}
 use Rattle.answers.proofs.Accepted.{sheet-numbered, tables-pass, separations-pass}
-use Rattle.theory.specs.Flow.{Flow}
-use Rattle.theory.specs.Chain.{Best}
 use Rattle.access.specs.Channel.{Channel}
 use Rattle.sheet.proofs.Calls.{used-part}
 use Rattle.verdict.specs.declared.Judged.{Judged}

@@ -10,18 +10,15 @@ use lib.ListN.{length}
 use Rattle.answers.specs.Call.{firstRefusal}
 use Rattle.answers.specs.Rows.{exceeds}
 use Rattle.answers.specs.Sizes.{mostText}
-use Rattle.answers.specs.Sheet.{Sheet}
 use Rattle.digits.specs.Line.{Line, line, feed, joined, lines}
-use Rattle.frames.specs.declared.Frame.{Frame}
-use Rattle.frames.specs.declared.Frame.the-variants.{Header, Assign, Permit, Separate, End}
 use Rattle.frames.specs.declared.Parsed.{Parsed}
-use Rattle.frames.specs.declared.Parsed.the-variants.{NoBytes, NoFrame, Good}
 use Rattle.frames.specs.declared.Passed.{Passed}
 use Rattle.frames.specs.declared.Verdict.{Verdict}
 use Rattle.frames.specs.declared.Verdict.the-variants.{Refused, Accepted}
 use Rattle.frames.specs.Frame.{parse}
-use Rattle.frames.specs.Check.{start, next, lineRefusals, nextLine, check, parsedLines, framesOf}
+use Rattle.frames.specs.Check.{start, lineRefusals, nextLine, check, parsedLines, framesOf}
 use Rattle.frames.proofs.Checks.{check-go, check-stop}
+use Rattle.frames.proofs.Turns.{more-lines}
 use Rattle.text.specs.Content.{contentOf}
 use Rattle.text.specs.Reading.{refused, readBy, readLines, readText}
 use Rattle.text.proofs.Worked.{reading}
@@ -46,20 +43,6 @@ parsed-long [] = refl
 parsed-long (l ∷ ls) = ap suc (parsed-long ls)
 
 -- ---- the refused line is one of them, or the one after the last
-next-lines : (k : Passed) (f : Frame) → next k f .lines ≡ k .lines + 1
-unfolding next
-next-lines k (Header s o r) = refl
-next-lines k (Assign s r) = refl
-next-lines k (Permit r o m) = refl
-next-lines k (Separate x y) = refl
-next-lines k (End h l) = refl
-
-passed-lines : (k : Passed) (p : Parsed) → nextLine k p .lines ≤ k .lines + 1
-unfolding nextLine
-passed-lines k NoBytes = omega arith
-passed-lines k NoFrame = omega arith
-passed-lines k (Good f) = omega (arith, next-lines k f)
-
 refused-among : (k : Passed) (ps : List Parsed) (n at : ℕ) → check k ps ≡ Refused n at → at ≤ k .lines + length ps + 1
 unfolding check
 refused-among k [] n at h = go (k .ended) h
@@ -71,7 +54,7 @@ refused-among k (p ∷ ps) n at h = go (firstRefusal (lineRefusals k p)) refl (r
   where
     go : (m : ℕ) → firstRefusal (lineRefusals k p) ≡ m → (check (nextLine k p) ps ≡ Refused n at → at ≤ nextLine k p .lines + length ps + 1) →
         at ≤ k .lines + suc (length ps) + 1
-    go zero e later = omega (arith, later (rw (check-go k p ps e) at h), passed-lines k p)
+    go zero e later = omega (arith, later (rw (check-go k p ps e) at h), more-lines k p)
     go (suc m) e later = let same : k .lines + 1 ≡ at = cc (check-stop k p ps m e) in omega arith
 
 -- ---- of a text within its size; one over it is refused at line 0

@@ -6,13 +6,14 @@ use mathlib.Core.Logic.{inl, inr}
 use mathlib.Core.List.{List, [], _∷_}
 use native.Mathlib.Decide.{decLt}
 use native.Mathlib.Omega.{arith}
+use lib.Dec.{lit≤}
 use lib.ListN.{length}
 use Rattle.answers.specs.declared.Counts.{Counts}
 use Rattle.answers.specs.Sizes.{mostSubjects}
-use Rattle.answers.specs.Sheet.{Sheet}
+use Rattle.answers.specs.Sheet.{Sheet, counts}
 use Rattle.theory.specs.Chain.{Chain, alone, link, Best}
 use Rattle.theory.proofs.Distinct.{Absent, nowhere, further, Distinct, empty, more, AllBelow, none, next, distinct-fits}
-use Rattle.theory.proofs.Chains.{shortest-distinct}
+use Rattle.theory.proofs.Chains.{best-alone, shortest-distinct}
 use Rattle.access.specs.Channel.{ChannelOf, Channel}
 use Rattle.access.proofs.Channels.{TwoSided, two-sided}
 
@@ -99,3 +100,11 @@ module _ {c : Counts} {assigned : ℕ → ℕ → Type 0} {held : ℕ → ℕ �
 -- 48 subjects, and an object before, between and after them
 pub at-most-97 : (t : Sheet) → t .counts .subjects ≤ mostSubjects → (x y : ℕ) (l : List ℕ) → Best (Channel t) x y l → length l ≤ 97
 at-most-97 t few x y l b = omega (arith, longest b)
+
+-- as of 48 subjects, from one of them to itself
+many : Sheet
+many = record { counts = counts 48 0 0; assignment = []; permission = []; separations = [] }
+
+alone-fits : length {A = ℕ} (7 ∷ []) ≤ 97
+unfolding many
+alone-fits = at-most-97 many (lit≤ tt) 7 7 (7 ∷ []) best-alone

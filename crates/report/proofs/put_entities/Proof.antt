@@ -9,18 +9,18 @@ use Rattle.report.proofs.put_entities.Statement.{statement}
 use Rattle.report.proofs.put_entities.Tie as tie
 
 abbrev Inv-loop : tie.InvT-loop
-Inv-loop out₀ n table at₀ x₀ out at x = (x ≤ n) × PutOutput (EntityLines n (Bytes n table) x) out₀ at out
+Inv-loop out₀ n table at₀ x₀ out at x = PutOutput (EntityLines n (Bytes n table) x) out₀ at out × (x ≤ n)
 
 abbrev μ-loop : tie.MeasureT-loop
 μ-loop out₀ n table at₀ x₀ out at x = n - x
 
 loop-holds : tie.Need-loop-holds Inv-loop μ-loop
-loop-holds c = (omega arith, lines-none _)
+loop-holds c = (lines-none _, omega arith)
 
 put-entity-requires : tie.Need-put-entity-requires Inv-loop μ-loop
 put-entity-requires c κs =
     let s = c .before .before .before .before .before in
-    let place = lines-place (c .before .before .loop .inv .1) in
+    let place = lines-place (c .before .before .loop .inv .0) in
     record { accepted = s .pre .0; entity = omega arith; room = omega (arith, s .pre .1) }
 
 add-x : tie.Need-add-x Inv-loop μ-loop
@@ -30,13 +30,13 @@ loop-less : tie.Need-loop-less Inv-loop μ-loop
 loop-less c = omega arith
 
 loop-again : tie.Need-loop-again Inv-loop μ-loop
-loop-again c = (omega arith, lines-more (c .before .before .before .before .before .loop .inv .1) (c .before .before .put-entity .ensures))
+loop-again c = (lines-more (c .before .before .before .before .before .loop .inv .0) (c .before .before .put-entity .ensures), omega arith)
 
 same-length : tie.Need-same-length Inv-loop μ-loop
-same-length c = lines-place (c .before .loop .inv .1) .1
+same-length c = lines-place (c .before .loop .inv .0) .1
 
 returns : tie.Need-returns Inv-loop μ-loop
-returns c = lines-all (omega arith) (omega arith) (c .before .loop .inv .1)
+returns c = lines-all (omega arith) (omega arith) (c .before .loop .inv .0)
 
 pub put-entities-spec : {M : Type 1} → statement M
 put-entities-spec = tie.close (tie.spec Inv-loop μ-loop loop-holds put-entity-requires add-x loop-less loop-again same-length returns)
