@@ -45,9 +45,13 @@ module _ (n : ℕ) (table : List ℕ) (x : ℕ) (a : Accepted n table) (h : x < 
         bytes-are = refl;
       }
 
-module _ {n : ℕ} {R : ℕ → ℕ → Type 0} {x : ℕ} where
-  pub flags-few : {flags : ℕ} → Greatest n R x flags → flags ≤ 3
-  flags-few g = omega (arith, g .summed, mark-bit (g .secret), mark-bit (g .integral))
-
-  pub size-few : {size : ℕ} → LabelSize n R x size → size ≤ n
-  size-few s = omega (arith, s .counted, count-within 1 (s .row), s .label .size)
+  -- of bytes
+  pub all-bytes : (class flags : Told) (size : ℕ) → Names n table x class → Flags n table x flags → LabelSize n (Bytes n table) x size →
+      (class .value < 256) × (flags .value < 256) × (size < 256)
+  all-bytes class flags size c f s =
+      let few = a .sized .few in
+      let g = flagged flags f in (
+        omega (arith, named class c .below),
+        omega (arith, g .summed, mark-bit (g .secret), mark-bit (g .integral)),
+        omega (arith, s .counted, count-within 1 (s .row), s .label .size),
+      )

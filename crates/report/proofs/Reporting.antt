@@ -3,15 +3,17 @@ use Prim.Native.Nat.{ℕ, _+_, _*_, _/_, _≤_, _<_}
 use mathlib.Core.Path.{_≡_, refl, sym, ap, _∙_}
 use mathlib.Core.Logic.{_≢_}
 use mathlib.Core.List.{List, _++_}
+use native.Mathlib.Decide.{ℕ-discrete}
 use native.Mathlib.Omega.{arith}
-use borrow.Author.Tests.{lt-ltb, le-ltb}
+use borrow.Author.Tests.{lt-ltb, le-ltb, ltb-false}
 use lib.ListN.{length}
+use Rattle.answers.specs.declared.Told.{Told}
 use Rattle.answers.specs.Call.{firstRefusal, told}
 use Rattle.answers.specs.Rows.{Bytes, over, shorter}
 use Rattle.answers.specs.Sizes.{leastFlow, leastAssignment, leastPermission, leastSeparations}
 use Rattle.answers.specs.Sheet.{Lent, Sheet, Sound, lent, sheetIn, sheetOf, entities}
 use Rattle.answers.specs.Inner.{Sized}
-use Rattle.answers.proofs.Calls.{refuse, accept}
+use Rattle.answers.proofs.Calls.{passed, refuse, accept}
 use Rattle.answers.proofs.Accepted.{tables-pass}
 use Rattle.answers.proofs.Sounds.{sized-of, listed-of}
 use Rattle.theory.proofs.Orders.{agree-turned}
@@ -125,3 +127,15 @@ module _ (text before : List ℕ) where
     pub sheet-reported : {assignment permission separations : List ℕ} {result : ReadResult} {next : ℕ} {after : List ℕ} → ReadDone assignment permission separations text result →
         PutOutput (SheetLines (sheetRead result)) before next after → Reports text before (told 0 next, after)
     sheet-reported d p = reported (sheet-printed d (p .right)) (p .put)
+
+-- ---- for those who print it: the told length is within the buffer
+pub size-within : (text before : List ℕ) (r : Told × List ℕ) → Reports text before r → r .0 .value ≤ length before
+unfolding reportRefusals
+size-within text before r call = go (ℕ-discrete (firstRefusal (reportRefusals before)) 0)
+  where
+    go : Dec (firstRefusal (reportRefusals before) ≡ 0) → r .0 .value ≤ length before
+    go (yes e) =
+        let d = call .done e in
+        let room : leastOutput ≤ length before = ltb-false _ _ (passed 1 _ _ tt e .0) in
+        omega (arith, ap (λ (x : Told × List ℕ). x .0 .value) (d .written), output-fits text (d .printed) (d .output))
+    go (no some) = rw (call .refusal some) (omega arith)

@@ -31,7 +31,7 @@ returns c =
     let s = judged .before .before .before .before .before .before in
     record {
       line = _;
-      right = hold-line (of s) _ _ _ _ _ (s .pre .0) (omega arith) (judged .judge .ensures) (c .before .before .before .before .before .if1 .taken);
+      right = hold-line (of s) _ _ _ _ _ (s .pre .0) (omega arith) (judged .judge .ensures) (omega arith);
       put = c .before .before .put-line .ensures;
     }
 
