@@ -1,8 +1,8 @@
 -- `transfers::run` meets its contract. The loop's invariant: the first k transfers are made. The measure is what is left.
-use Prim.Native.Nat.{ℕ, _+_, _-_, _*_, _≤_, _<_}
+use Prim.Native.Nat.{_+_, _-_, _*_, _≤_, _<_}
 use native.Mathlib.Omega.{arith}
 use mathlib.Core.Path.{_≡_}
-use lib.ListN.{length, getD}
+use lib.ListN.{length}
 use borrow.Author.Needs.{needs}
 use Rattle.answers.specs.Rows.{Bytes}
 use Rattle.answers.specs.Sheet.{entities}
@@ -75,13 +75,12 @@ loop-again c =
     let turn = at-step .before .before .before .before .before .before in
     let k = turn .before .loop .k in
     let bytes = start turn .args .transfers .now in
-    let room = start turn .pre .each k (omega arith) .place in
-    (
+    let room = start turn .pre .each k (omega arith) .place in (
       omega arith,
       search needs,
       search needs,
       ran-more _ _ _ _ _ _ noTransfer k _ _ _ _ _ _ (reached turn) room (turn .before .loop .inv .3)
-      (rw (transfers-at bytes k noTransfer (whole turn)) (at-step .step .ensures)),
+          (rw (transfers-at bytes k noTransfer (whole turn)) (at-step .step .ensures)),
     )
 
 same-length : tie.Need-same-length Inv-loop μ-loop
