@@ -21,18 +21,6 @@ fn report_case(text: Vec<u8>, random: &mut Random) -> Case {
     case(REPORT, vec![], vec![text, buffer(least, random)])
 }
 
-// The texts that are written out in a file, with the number and the line that document 01 gives them.
-fn listed(path: &str) -> Vec<(u8, usize, Vec<u8>)> {
-    let file = std::fs::read_to_string(path).expect("the listed texts");
-    let rows = file.lines().filter(|l| !l.starts_with('#') && !l.is_empty());
-    rows.map(|row| {
-        let part: Vec<&str> = row.splitn(4, " | ").collect();
-        let text = part[2].replace("\\n", "\n").replace("\\r", "\r").into_bytes();
-        (part[0].trim().parse().unwrap(), part[1].trim().parse().unwrap(), text)
-    })
-    .collect()
-}
-
 // Separations i x 8 + j of nine subjects, the first `count` of them, and one more line.
 fn separations(count: usize, last: &str) -> Vec<u8> {
     let mut text = b"01090000\n".to_vec();

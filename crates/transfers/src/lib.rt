@@ -12,7 +12,7 @@ ghost use Rattle.answers.specs.Rows.{Bytes};
 ghost use Rattle.answers.specs.Sheet.{entities, lent};
 ghost use Rattle.transfers.specs.Acts.{plus, acted};
 ghost use Rattle.transfers.specs.Transfers.{transfer, flatTransfers, Comes};
-ghost use Rattle.transfers.specs.Rehearse.{newTally, tallyRefusals, RehearsesFlat};
+ghost use Rattle.transfers.specs.Rehearse.{tallyRefusals, RehearsesFlat};
 ghost use Rattle.transfers.specs.Inner.{rehearsedTo, Tried, Within, Made, noted, Steppable, Stepped, Runnable, Ran, finished, Finishable, Begun, testedRefusals, fewLent, flatRefusals, countedRefusals};
 
 // What a transfer comes to: a move from one entity to another, a number or a mode out of range, or no channel.
@@ -219,17 +219,6 @@ const MOST_TRANSFER_BYTES: usize = 12288;
 const LEAST_MARKS: usize = 112;
 
 const LEAST_VERDICTS: usize = 4096;
-
-// A tally before its first rehearsal.
-pub fn new_tally() -> Tally
-    ensures { λ r. ⌜ r ≡ newTally ⌝ }
-{
-    Tally {
-        applied: 0,
-        outside: 0,
-        barred: 0,
-    }
-}
 
 // 17 of a tally, 0 for none.
 fn tally_refusal(tally: Tally) -> u8
