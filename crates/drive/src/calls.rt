@@ -24,7 +24,7 @@ fn told(t: Told) -> Numbers {
 }
 
 // S, O and R are the first numbers of every call on tables.
-fn counts(head: &[u8]) -> Counts {
+pub fn counts(head: &[u8]) -> Counts {
     Counts {
         subjects: form::argument(head, 0),
         objects: form::argument(head, 1),
