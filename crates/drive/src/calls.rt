@@ -209,3 +209,8 @@ pub fn of_tables(
     }
     judge(head, a, b, c, d)
 }
+
+// Call 19.
+pub fn report(text: &[u8], out: &mut [u8]) -> Numbers {
+    told(report::report(text, out))
+}

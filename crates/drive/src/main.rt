@@ -23,6 +23,7 @@
 // 16 new_tally                                                              applied, outside, barred
 // 17 rehearse        S, O, R, tally; assignment, permission, transfers, marks, verdicts     answer, applied, tally
 // 18 rehearse_records   the same, with each three bytes of transfers as one record          the same
+// 19 report          text, out                                              answer, length
 //
 // A tally is three numbers: applied, outside and barred, each modulo 2^32. Marks are numbers of four bytes, high byte first: as many as
 // the buffer has whole fours, at most 2,048. There are as many records as the buffer has whole threes, at most 4,200.
@@ -69,7 +70,10 @@ fn make_call(
     if call < 16 {
         return calls::of_tables(call, head, a, b, c, d);
     }
-    rehearsals::of_rehearsal(call, head, a, b, c, d, e)
+    if call < 19 {
+        return rehearsals::of_rehearsal(call, head, a, b, c, d, e);
+    }
+    calls::report(a, b)
 }
 
 // Writes the answer of a case.
