@@ -97,12 +97,12 @@ fn come_to(channels: &[u8], c: Counts, subject: u8, object: u8, mode: u8) -> Act
         return Act::OutOfRange;
     }
     let n = c.subjects + c.objects;
-    let e = c.subjects + o;
+    let entity = c.subjects + o;
     if mode == READ {
-        return try_move(channels, n, e, s);
+        return try_move(channels, n, entity, s);
     }
     if mode == WRITE {
-        return try_move(channels, n, s, e);
+        return try_move(channels, n, s, entity);
     }
     Act::OutOfRange
 }
