@@ -21,18 +21,6 @@ fn report_case(text: Vec<u8>, random: &mut Random) -> Case {
     case(REPORT, vec![], vec![text, buffer(least, random)])
 }
 
-// The texts that are written out in a file, with the number and the line that document 01 gives them.
-fn listed(path: &str) -> Vec<(u8, usize, Vec<u8>)> {
-    let file = std::fs::read_to_string(path).expect("the listed texts");
-    let rows = file.lines().filter(|l| !l.starts_with('#') && !l.is_empty());
-    rows.map(|row| {
-        let part: Vec<&str> = row.splitn(4, " | ").collect();
-        let text = part[2].replace("\\n", "\n").replace("\\r", "\r").into_bytes();
-        (part[0].trim().parse().unwrap(), part[1].trim().parse().unwrap(), text)
-    })
-    .collect()
-}
-
 // Separations i x 8 + j of nine subjects, the first `count` of them, and one more line.
 fn separations(count: usize, last: &str) -> Vec<u8> {
     let mut text = b"01090000\n".to_vec();
@@ -393,7 +381,6 @@ fn main() {
         all.push(c);
     }
     all.extend(random_cases(seed, count));
-    all.retain(|c| c.call <= JUDGE);
     for call in CALLS {
         let (accepted, cases) = all.iter().filter(|c| c.call == call).fold((0, 0), |(a, n), c| (a + (c.expected().numbers[0] == 0) as usize, n + 1));
         println!("call {call}: {cases} cases, {accepted} with answer 0");

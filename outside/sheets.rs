@@ -124,3 +124,15 @@ pub fn damaged(mut text: Vec<u8>, random: &mut Random) -> Vec<u8> {
     }
     text
 }
+
+// The texts that are written out in a file, with the number and the line that document 01 gives them.
+pub fn listed(path: &str) -> Vec<(u8, usize, Vec<u8>)> {
+    let file = std::fs::read_to_string(path).expect("the listed texts");
+    let rows = file.lines().filter(|l| !l.starts_with('#') && !l.is_empty());
+    rows.map(|row| {
+        let part: Vec<&str> = row.splitn(4, " | ").collect();
+        let text = part[2].replace("\\n", "\n").replace("\\r", "\r").into_bytes();
+        (part[0].trim().parse().unwrap(), part[1].trim().parse().unwrap(), text)
+    })
+    .collect()
+}

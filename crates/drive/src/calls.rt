@@ -24,7 +24,7 @@ fn told(t: Told) -> Numbers {
 }
 
 // S, O and R are the first numbers of every call on tables.
-fn counts(head: &[u8]) -> Counts {
+pub fn counts(head: &[u8]) -> Counts {
     Counts {
         subjects: form::argument(head, 0),
         objects: form::argument(head, 1),
@@ -208,4 +208,9 @@ pub fn of_tables(
         return chain(head, a, b, c);
     }
     judge(head, a, b, c, d)
+}
+
+// Call 19.
+pub fn report(text: &[u8], out: &mut [u8]) -> Numbers {
+    told(report::report(text, out))
 }

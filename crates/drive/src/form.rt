@@ -123,7 +123,7 @@ pub fn get(bytes: &[u8], at: usize) -> u8 {
 
 // The number in the `size` bytes from a place on, high byte first.
 pub fn number(bytes: &[u8], at: usize, size: usize) -> u64
-    requires { ⌜ (at < 1000) × (size < 9) ⌝ }
+    requires { ⌜ (at < 2 ^ 63) × (size < 9) ⌝ }
 {
     let mut n: u64 = 0;
     for i in 0..size {
@@ -147,13 +147,13 @@ pub fn length_of(head: &[u8], i: usize, room: usize) -> usize
     within(number(head, 49 + 4 * i, 4) as usize, room)
 }
 
-// Puts a number into a place of eight bytes, high byte first.
-fn put_number(n: u64, bytes: &mut [u8], at: usize)
-    requires { ⌜ at < 1000 ⌝ }
+// Puts a number into the `size` bytes from a place on, high byte first.
+pub fn put_number(n: u64, bytes: &mut [u8], at: usize, size: usize)
+    requires { ⌜ (at < 2 ^ 63) × (size < 9) ⌝ }
 {
     let mut left = n;
-    for i in 0..8 {
-        put(bytes, at + (7 - i), (left % 256) as u8);
+    for i in 0..size {
+        put(bytes, at + (size - 1 - i), (left % 256) as u8);
         left = left / 256;
     }
 }
@@ -178,12 +178,12 @@ pub struct Numbers {
 // Writes the numbers of an answer.
 pub fn write_numbers(numbers: Numbers) {
     let mut bytes = [0u8; 48];
-    put_number(numbers.first, &mut bytes, 0);
-    put_number(numbers.second, &mut bytes, 8);
-    put_number(numbers.third, &mut bytes, 16);
-    put_number(numbers.fourth, &mut bytes, 24);
-    put_number(numbers.fifth, &mut bytes, 32);
-    put_number(numbers.sixth, &mut bytes, 40);
+    put_number(numbers.first, &mut bytes, 0, 8);
+    put_number(numbers.second, &mut bytes, 8, 8);
+    put_number(numbers.third, &mut bytes, 16, 8);
+    put_number(numbers.fourth, &mut bytes, 24, 8);
+    put_number(numbers.fifth, &mut bytes, 32, 8);
+    put_number(numbers.sixth, &mut bytes, 40, 8);
     write_bytes(&bytes);
 }
 

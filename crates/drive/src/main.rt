@@ -20,8 +20,16 @@
 // 13 set_permission  S, O, R, r, o, mode; assignment, permission            answer
 // 14 chain           S, O, R, x, y; assignment, permission, chain           answer, count
 // 15 judge           S, O, R, count; assignment, permission, separations, chain       answer, position, count
+// 16 new_tally                                                              applied, outside, barred
+// 17 rehearse        S, O, R, tally; assignment, permission, transfers, marks, verdicts     answer, applied, tally
+// 18 rehearse_records   the same, with each three bytes of transfers as one record          the same
+// 19 report          text, out                                              answer, length
+//
+// A tally is three numbers: applied, outside and barred, each modulo 2^32. Marks are numbers of four bytes, high byte first: as many as
+// the buffer has whole fours, at most 2,048. There are as many records as the buffer has whole threes, at most 4,200.
 mod calls;
 mod form;
+mod rehearsals;
 
 use form::Numbers;
 
@@ -44,7 +52,14 @@ fn read_buffers(
 }
 
 // Makes the call that a case names.
-fn make_call(head: &[u8], a: &mut [u8], b: &mut [u8], c: &mut [u8], d: &mut [u8]) -> Numbers {
+fn make_call(
+    head: &[u8],
+    a: &mut [u8],
+    b: &mut [u8],
+    c: &mut [u8],
+    d: &mut [u8],
+    e: &mut [u8],
+) -> Numbers {
     let call = form::get(head, 0);
     if call < 4 {
         return calls::of_sheet(call, head, a, b, c, d);
@@ -52,7 +67,13 @@ fn make_call(head: &[u8], a: &mut [u8], b: &mut [u8], c: &mut [u8], d: &mut [u8]
     if call < 12 {
         return calls::of_flow(call, head, a, b, c);
     }
-    calls::of_tables(call, head, a, b, c, d)
+    if call < 16 {
+        return calls::of_tables(call, head, a, b, c, d);
+    }
+    if call < 19 {
+        return rehearsals::of_rehearsal(call, head, a, b, c, d, e);
+    }
+    calls::report(a, b)
 }
 
 // Writes the answer of a case.
@@ -67,6 +88,20 @@ fn write_answer(numbers: Numbers, a: &[u8], b: &[u8], c: &[u8], d: &[u8], e: &[u
     form::write_line_feed();
 }
 
+// Makes the call of a case whose buffers are read, and writes the answer.
+fn answer_case(
+    head: &[u8],
+    a: &mut [u8],
+    b: &mut [u8],
+    c: &mut [u8],
+    d: &mut [u8],
+    e: &mut [u8],
+    f: &[u8],
+) {
+    let numbers = make_call(head, a, b, c, d, e);
+    write_answer(numbers, a, b, c, d, e, f);
+}
+
 // A case whose buffers have the lengths that its head says.
 fn run_case(
     head: &[u8],
@@ -78,8 +113,7 @@ fn run_case(
     f: &mut [u8],
 ) {
     read_buffers(a, b, c, d, e, f);
-    let numbers = make_call(head, a, b, c, d);
-    write_answer(numbers, a, b, c, d, e, f);
+    answer_case(head, a, b, c, d, e, f);
 }
 
 // One case, in a part of each buffer. Answers whether there was one.

@@ -3,7 +3,7 @@ use Prim.Native.Nat.{ℕ, _≤_, _<_}
 use native.Mathlib.Omega.{arith}
 use mathlib.Core.Path.{_≡_}
 use Rattle.answers.specs.declared.Counts.{Counts}
-use Rattle.answers.specs.Sheet.{entities, objectEntity}
+use Rattle.answers.specs.Sheet.{entities}
 use Rattle.transfers.specs.declared.Act.{Act}
 use Rattle.transfers.specs.declared.Act.the-variants.{Moves, OutOfRange}
 use Rattle.transfers.specs.declared.Transfer.{Transfer}

@@ -15,9 +15,9 @@ use Rattle.transfers.specs.Transfers.{flatTransfers}
 use Rattle.transfers.specs.Rehearse.{tally, newTally, Rehearsed, rehearsed, raised, RehearsesRecords}
 use Rattle.transfers.proofs.Determined.{rehearse-determined, rehearse-records-determined}
 use Rattle.transfers.proofs.Moving.{AllMove}
-use Rattle.transfers.proofs.Shares.{share, weighed, final-mark}
+use Rattle.transfers.proofs.Shares.{share, weighed}
 use Rattle.transfers.proofs.Labels.{chainMoves, chain-along, share-outside, share-along}
-use Rattle.transfers.proofs.TwoRuns.{label-lacks, label-holds}
+use Rattle.transfers.proofs.TwoRuns.{final-mark, label-lacks, label-holds}
 use Rattle.transfers.proofs.FlatBytes.{flatBytes}
 use Rattle.transfers.proofs.Chains.{chain-comes, chain-bytes}
 use Rattle.transfers.proofs.Entries.{threes-as-records}

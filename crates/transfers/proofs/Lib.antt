@@ -16,6 +16,7 @@ pub mod SmallSheet
 pub mod SmallCalls
 pub mod Instances
 pub mod RefusalOrder
+-- for the proofs of functions
 pub mod ByTable
 pub mod Coming
 pub mod Started

@@ -7,9 +7,9 @@ use mathlib.Core.Logic.{_≢_}
 use mathlib.Core.Bool.{cond}
 use mathlib.Core.List.{List, [], _∷_, _++_}
 use lib.Dec.{eqb}
-use lib.ListN.{length, getD, take}
+use lib.ListN.{length, getD}
 use lib.Seq.{length-take-le, length-front, take-suc, take-length}
-use borrow.Author.Tests.{ne-eqb, eq-eqb}
+use borrow.Author.Tests.{ne-eqb}
 use Rattle.answers.specs.declared.Counts.{Counts}
 use Rattle.answers.specs.Sizes.{mostTransfers}
 use Rattle.answers.specs.Call.{Refusal, firstRefusal, Outcome}

@@ -10,14 +10,12 @@ use borrow.Author.Tests.{ltb-false, ne-eqb}
 use Rattle.answers.specs.Sizes.{mostTransfers, leastMarks, leastVerdicts}
 use Rattle.answers.specs.Call.{Refusal, _then_, firstRefusal}
 use Rattle.answers.specs.Rows.{exceeds}
-use Rattle.answers.specs.Sheet.{Lent, entities, sheetIn}
+use Rattle.answers.specs.Sheet.{Lent}
 use Rattle.answers.specs.Refusals.{sheetRefusals}
 use Rattle.answers.specs.Inner.{Sized}
 use Rattle.answers.proofs.Calls.{passed, by-first, by-second, passed-then}
 use Rattle.answers.proofs.Accepted.{sheet-numbered, tables-passed}
 use Rattle.answers.proofs.Tabled.{neither}
-use Rattle.access.specs.Channel.{Channel}
-use Rattle.access.specs.Inner.{Filled}
 use Rattle.transfers.specs.declared.Tally.{Tally}
 use Rattle.transfers.specs.declared.Progress.{Progress}
 use Rattle.transfers.specs.Rehearse.{mostTallied, tallyRefusals}
@@ -99,17 +97,6 @@ module _ (l : Lent) (marks verdicts : ℕ) (t : Tally) where
       tested-cleared l records marks verdicts _ false t (λ e. ltb-false _ _ e) (counted-tested records ∙ e)
 
 -- ---- the start
-module _ {l : Lent} {refusals : List Refusal} {transfers : ℕ} {before : List ℕ} where
-  pub begun-refused : (n : ℕ) → n ≡ firstRefusal refusals → n ≢ 0 →
-      Begun l refusals transfers before before (record { answer = n; count = 0; applied = 0; outside = 0; barred = 0 })
-  unfolding begun
-  begun-refused n e some = record { progress-is = rw (← e, ne-eqb n 0 some); channels = λ none. absurd (some (e ∙ none)) }
-
-  pub begun-filled : {after : List ℕ} → firstRefusal refusals ≡ 0 → Filled (entities (l .counts)) (Channel (sheetIn l)) before after →
-      Begun l refusals transfers before after (record { answer = 0; count = transfers; applied = 0; outside = 0; barred = 0 })
-  unfolding begun
-  begun-filled passes f = record { progress-is = rw passes; channels = λ _. f }
-
 pub begun-agrees : {l : Lent} {refusals refusals′ : List Refusal} {transfers : ℕ} {before after : List ℕ} {p : Progress} →
     firstRefusal refusals ≡ firstRefusal refusals′ → Begun l refusals transfers before after p → Begun l refusals′ transfers before after p
 begun-agrees {transfers = transfers} e b =

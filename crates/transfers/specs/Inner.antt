@@ -47,7 +47,7 @@ pub data Within (n : ℕ) : Act → Type 0 where
 -- an act made: its verdict byte, and the marks
 pub record Made (act : Act) (marks marks′ : List ℕ) (byte : ℕ) : Type 0 where
   pub byte-is : byte ≡ verdict act
-  pub marks-are : marks′ ≡ acted act marks
+  pub moved : marks′ ≡ acted act marks
 
 -- one verdict byte more
 unfoldable pub noted : Progress → ℕ → Progress

@@ -2,18 +2,18 @@
 use answers::Counts;
 use answers::Told;
 ghost use mathlib.Core.Path.{_≡_};
-ghost use mathlib.Core.Bool.{cond, not};
-ghost use Prim.Native.Nat.{_+_, _*_, _/_, _%_, _^_, _≤_, _<_};
+ghost use mathlib.Core.Bool.{cond};
+ghost use Prim.Native.Nat.{_+_, _*_, _/_, _≤_, _<_};
 ghost use lib.Dec.{eqb};
-ghost use lib.ListN.{length, getD};
-ghost use Rattle.answers.specs.Sizes.{mostSubjects, mostObjects, mostTransfers, leastFlow};
+ghost use lib.ListN.{length};
+ghost use Rattle.answers.specs.Sizes.{mostSubjects, mostObjects, mostEntities, mostTransfers, leastFlow};
 ghost use Rattle.answers.specs.Call.{firstRefusal};
 ghost use Rattle.answers.specs.Rows.{Bytes};
 ghost use Rattle.answers.specs.Sheet.{entities, lent};
-ghost use Rattle.transfers.specs.Acts.{acted};
+ghost use Rattle.transfers.specs.Acts.{plus, acted};
 ghost use Rattle.transfers.specs.Transfers.{transfer, flatTransfers, Comes};
-ghost use Rattle.transfers.specs.Rehearse.{newTally, tallyRefusals, RehearsesFlat};
-ghost use Rattle.transfers.specs.Inner.{rehearsedTo, Tried, Within, Made, noted, noTransfer, Steppable, Stepped, Runnable, Ran, finished, Finishable, Begun, testedRefusals, fewLent, flatRefusals, countedRefusals};
+ghost use Rattle.transfers.specs.Rehearse.{tallyRefusals, RehearsesFlat};
+ghost use Rattle.transfers.specs.Inner.{rehearsedTo, Tried, Within, Made, noted, Steppable, Stepped, Runnable, Ran, finished, Finishable, Begun, testedRefusals, fewLent, flatRefusals, countedRefusals};
 
 // What a transfer comes to: a move from one entity to another, a number or a mode out of range, or no channel.
 pub enum Act {
@@ -74,7 +74,7 @@ fn wide(x: u8) -> usize
 
 // The move from a to b, if the table of n entities has the channel.
 fn try_move(channels: &[u8], n: usize, a: usize, b: usize) -> Act
-    requires { ⌜ (n * n ≤ length (now channels)) × (n ≤ 112) × (a < n) × (b < n) ⌝ }
+    requires { ⌜ (n * n ≤ length (now channels)) × (n ≤ mostEntities) × (a < n) × (b < n) ⌝ }
     ensures { λ r. ⌜ Tried (Bytes n (now (channels .entry))) a b r ⌝ }
 {
     if channels[a * n + b] == CHANNEL {
@@ -97,19 +97,19 @@ fn come_to(channels: &[u8], c: Counts, subject: u8, object: u8, mode: u8) -> Act
         return Act::OutOfRange;
     }
     let n = c.subjects + c.objects;
-    let e = c.subjects + o;
+    let entity = c.subjects + o;
     if mode == READ {
-        return try_move(channels, n, e, s);
+        return try_move(channels, n, entity, s);
     }
     if mode == WRITE {
-        return try_move(channels, n, s, e);
+        return try_move(channels, n, s, entity);
     }
     Act::OutOfRange
 }
 
 // A mark with a source's mark added, modulo 2^32.
 fn added(old: u32, source: u32) -> u32
-    ensures { λ r. ⌜ r ≡ (old + source) % 2 ^ 32 ⌝ }
+    ensures { λ r. ⌜ r ≡ plus old source ⌝ }
 {
     std::num::wrapping_add_u32(old, source)
 }
@@ -219,17 +219,6 @@ const MOST_TRANSFER_BYTES: usize = 12288;
 const LEAST_MARKS: usize = 112;
 
 const LEAST_VERDICTS: usize = 4096;
-
-// A tally before its first rehearsal.
-pub fn new_tally() -> Tally
-    ensures { λ r. ⌜ r ≡ newTally ⌝ }
-{
-    Tally {
-        applied: 0,
-        outside: 0,
-        barred: 0,
-    }
-}
 
 // 17 of a tally, 0 for none.
 fn tally_refusal(tally: Tally) -> u8

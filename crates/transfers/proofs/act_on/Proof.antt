@@ -26,15 +26,15 @@ unfolding verdict
 returns c =
     let at-move = c .before .before in
     let is = at-move .before .before .before .act .given .1 in
-    record { byte-is = rw is; marks-are = at-move .move-mark .ensures ∙ rw is }
+    record { byte-is = rw is; moved = at-move .move-mark .ensures ∙ rw is }
 
 returns-2 : tie.Need-returns-2
 unfolding verdict acted
-returns-2 c = record { byte-is = rw (c .enum-told .given .1); marks-are = rw (c .enum-told .given .1) }
+returns-2 c = record { byte-is = rw (c .enum-told .given .1); moved = rw (c .enum-told .given .1) }
 
 returns-3 : tie.Need-returns-3
 unfolding verdict acted
-returns-3 c = record { byte-is = rw (c .enum-told2 .given .1); marks-are = rw (c .enum-told2 .given .1) }
+returns-3 c = record { byte-is = rw (c .enum-told2 .given .1); moved = rw (c .enum-told2 .given .1) }
 
 pub act-on-spec : {M : Type 1} → statement M
 act-on-spec =

@@ -21,8 +21,8 @@ returns-2 c = outside-object (omega arith)
 add-n : tie.Need-add-n
 add-n c = search needs
 
-add-e : tie.Need-add-e
-add-e c = search needs
+add-entity : tie.Need-add-entity
+add-entity c = search needs
 
 try-move-requires : tie.Need-try-move-requires
 try-move-requires c κs = search needs
@@ -53,7 +53,7 @@ come-to-spec =
     returns
     returns-2
     add-n
-    add-e
+    add-entity
     try-move-requires
     returns-3
     try-move-requires-2

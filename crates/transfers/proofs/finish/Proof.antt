@@ -1,4 +1,5 @@
 -- `transfers::finish` meets its contract.
+use native.Mathlib.Omega.{arith}
 use borrow.Author.Needs.{needs}
 use borrow.Author.Tests.{eq-eqb, ne-eqb}
 use Rattle.transfers.specs.Inner.{finished}
@@ -7,7 +8,7 @@ use Rattle.transfers.proofs.finish.Tie as tie
 
 returns : tie.Need-returns
 unfolding finished
-returns c = rw (ne-eqb _ 0 (c .if1 .taken))
+returns c = rw (ne-eqb (c .before .args .p .answer) 0 (λ e. omega arith))
 
 cast-t8 : tie.Need-cast-t8
 cast-t8 c = search needs
@@ -17,7 +18,7 @@ raise-requires c κs = search needs
 
 returns-2 : tie.Need-returns-2
 unfolding finished
-returns-2 c = rw (c .raise .ensures, eq-eqb _ 0 (c .before .before .if1 .left))
+returns-2 c = rw (c .raise .ensures, eq-eqb (c .before .before .before .args .p .answer) 0 (omega arith))
 
 pub finish-spec : {M : Type 1} → statement M
 finish-spec = tie.close (tie.spec returns cast-t8 raise-requires returns-2)

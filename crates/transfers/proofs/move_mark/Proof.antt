@@ -1,6 +1,6 @@
 -- `transfers::move_mark` meets its contract: the store is that of a move.
 use borrow.Author.Needs.{needs}
-use Rattle.transfers.specs.Acts.{plus, acted}
+use Rattle.transfers.specs.Acts.{acted}
 use Rattle.transfers.proofs.move_mark.Statement.{statement}
 use Rattle.transfers.proofs.move_mark.Tie as tie
 
@@ -29,7 +29,7 @@ same-length : tie.Need-same-length
 same-length c = search needs
 
 returns : tie.Need-returns
-unfolding acted plus
+unfolding acted
 returns c = rw (c .added .ensures)
 
 pub move-mark-spec : {M : Type 1} → statement M

@@ -1,8 +1,8 @@
 -- `transfers::run` meets its contract. The loop's invariant: the first k transfers are made. The measure is what is left.
-use Prim.Native.Nat.{ℕ, _+_, _-_, _*_, _≤_, _<_}
+use Prim.Native.Nat.{_+_, _-_, _*_, _≤_, _<_}
 use native.Mathlib.Omega.{arith}
 use mathlib.Core.Path.{_≡_}
-use lib.ListN.{length, getD}
+use lib.ListN.{length}
 use borrow.Author.Needs.{needs}
 use Rattle.answers.specs.Rows.{Bytes}
 use Rattle.answers.specs.Sheet.{entities}

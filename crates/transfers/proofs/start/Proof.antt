@@ -1,7 +1,10 @@
 -- `transfers::start` meets its contract: the two ways to begin.
 use mathlib.Core.Path.{sym, _∙_}
+use native.Mathlib.Omega.{arith}
 use borrow.Author.Needs.{needs}
-use Rattle.transfers.proofs.Started.{tested-sized, begun-refused, begun-filled}
+use borrow.Author.Tests.{ne-eqb}
+use Rattle.transfers.specs.Inner.{begun}
+use Rattle.transfers.proofs.Started.{tested-sized}
 use Rattle.transfers.proofs.start.Statement.{statement}
 use Rattle.transfers.proofs.start.Tie as tie
 
@@ -9,7 +12,10 @@ start-refusal-requires : tie.Need-start-refusal-requires
 start-refusal-requires c κs = search needs
 
 returns : tie.Need-returns
-returns c = begun-refused _ (c .before .start-refusal .ensures) (c .if1 .taken)
+unfolding begun
+returns c =
+    let e = c .before .start-refusal .ensures in
+    record { progress-is = rw (← e, ne-eqb (c .before .start-refusal .result) 0 (c .if1 .taken)); channels = λ none. absurd (omega arith) }
 
 fill-channels-requires : tie.Need-fill-channels-requires
 fill-channels-requires c κs =
@@ -20,9 +26,10 @@ same-length : tie.Need-same-length
 same-length c = search needs
 
 returns-2 : tie.Need-returns-2
+unfolding begun
 returns-2 c =
-    begun-filled (sym (c .before .before .before .before .before .start-refusal .ensures) ∙ c .before .before .before .before .if1 .left)
-    (c .before .before .fill-channels .ensures)
+    let passes = sym (c .before .before .before .before .before .start-refusal .ensures) ∙ c .before .before .before .before .if1 .left in
+    record { progress-is = rw passes; channels = λ _. c .before .before .fill-channels .ensures }
 
 pub start-spec : {M : Type 1} → statement M
 start-spec = tie.close (tie.spec start-refusal-requires returns fill-channels-requires same-length returns-2)

@@ -29,7 +29,7 @@ returns c =
     record {
       act = c .before .before .before .before .before .come-to .result;
       comes = c .before .before .before .before .before .come-to .ensures;
-      marks-are = made .marks-are;
+      marks-are = made .moved;
       verdicts-are = rw (made .byte-is);
       progress-is = c .note .ensures ∙ rw (made .byte-is);
     }

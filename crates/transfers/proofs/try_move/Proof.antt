@@ -1,15 +1,18 @@
 -- `transfers::try_move` meets its contract: the place of a pair is within the table.
 use Prim.Native.Nat.{ℕ, _+_, _*_, _≤_, _<_}
-use native.Mathlib.Nat.{mul-le-mul, mul-le-mul-right}
 use native.Mathlib.Omega.{arith}
-use Rattle.answers.proofs.Products.{place-below}
+use Rattle.answers.specs.Sizes.{mostEntities, leastFlow}
+use Rattle.answers.proofs.Products.{product-within, place-below}
 use Rattle.transfers.specs.Inner.{has-channel, lacks-channel}
 use Rattle.transfers.proofs.try_move.Statement.{statement}
 use Rattle.transfers.proofs.try_move.Tie as tie
 
 -- the place of a pair is within the table
-within : {n a b l : ℕ} → (n * n ≤ l) × (n ≤ 112) × (a < n) × (b < n) → (a * n + b < l) × (a * n + b < 112 * 112)
-within {n} {a} {b} {l} p = (place-below a b n n l (p .2) (p .3) (p .0), place-below a b n n (112 * 112) (p .2) (p .3) (mul-le-mul (p .1) (p .1)))
+within : {n a b l : ℕ} → (n * n ≤ l) × (n ≤ mostEntities) × (a < n) × (b < n) → (a * n + b < l) × (a * n + b < leastFlow)
+within {n} {a} {b} {l} p = (
+  place-below a b n n l (p .2) (p .3) (p .0),
+  place-below a b n n leastFlow (p .2) (p .3) (product-within n n mostEntities mostEntities leastFlow (p .1) (p .1) (omega arith)),
+)
 
 mul-if1 : tie.Need-mul-if1
 mul-if1 c = record { fits = omega (arith, within (c .pre)) }

@@ -7,16 +7,19 @@ use Rattle.drive.proofs.form.put_number.Statement.{statement}
 use Rattle.drive.proofs.form.put_number.Tie as tie
 
 abbrev Inv-loop : tie.InvT-loop
-Inv-loop n bytes₀ at left₀ i₀ bytes left i = (i ≤ 8) × (length bytes ≡ length bytes₀)
+Inv-loop n bytes₀ at size left₀ i₀ bytes left i = (i ≤ size) × (length bytes ≡ length bytes₀)
 
 abbrev μ-loop : tie.MeasureT-loop
-μ-loop n bytes₀ at left₀ i₀ bytes left i = 8 - i
+μ-loop n bytes₀ at size left₀ i₀ bytes left i = size - i
 
 loop-holds : tie.Need-loop-holds Inv-loop μ-loop
 loop-holds c = search needs
 
 sub-put : tie.Need-sub-put Inv-loop μ-loop
 sub-put c = search needs
+
+sub-put-2 : tie.Need-sub-put-2 Inv-loop μ-loop
+sub-put-2 c = search needs
 
 add-put : tie.Need-add-put Inv-loop μ-loop
 add-put c = search needs
@@ -50,6 +53,7 @@ put-number-spec =
     μ-loop
     loop-holds
     sub-put
+    sub-put-2
     add-put
     cast-put
     put-requires

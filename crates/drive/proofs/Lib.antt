@@ -1,0 +1,3 @@
+-- What the walks by hand share.
+pub mod Lending
+pub mod LocalRecords
