@@ -6,14 +6,14 @@ use native.Mathlib.Omega.{arith}
 use lib.ListN.{length, take, drop, length-append}
 use lib.Seq.{getD-take}
 use Rattle.answers.specs.Sizes.{mostSubjects, mostRoles, mostEntities}
-use Rattle.answers.specs.Rows.{at, over}
+use Rattle.answers.specs.Rows.{at, Filled, over}
 use Rattle.answers.specs.Sheet.{Lent, entities, sheetOf, sheetIn}
 use Rattle.answers.specs.Inner.{Sized}
 use Rattle.answers.proofs.Marks.{mark-agrees}
 use Rattle.answers.proofs.Products.{place-below}
 use Rattle.theory.proofs.Flows.{Has, Inside}
 use Rattle.access.specs.Channel.{read, write, Assigned, Plain, Channel}
-use Rattle.access.specs.Inner.{Lists, OnList, ModeOn, ListChannel, Askable, Filled}
+use Rattle.access.specs.Inner.{Lists, OnList, ModeOn, ListChannel, Askable}
 use Rattle.access.proofs.Channels.{channel-inside, channel-more}
 
 -- a place of the used part of a table holds what the lent table holds there

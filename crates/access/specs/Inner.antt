@@ -6,7 +6,7 @@ use mathlib.Core.List.{List}
 use lib.ListN.{length, getD}
 use Rattle.answers.specs.declared.Counts.{Counts}
 use Rattle.answers.specs.Sizes.{mostSubjects, mostObjects, mostRoles, leastPermission, leastFlow}
-use Rattle.answers.specs.Rows.{at, Marked, over}
+use Rattle.answers.specs.Rows.{at}
 use Rattle.answers.specs.Sheet.{Lent}
 use Rattle.answers.specs.Inner.{Sized}
 use Rattle.access.specs.Channel.{Has, ChannelOf}
@@ -63,12 +63,6 @@ pub record Askable (c : Counts) (lists used permission : List ℕ) : Type 0 wher
   pub permitted : leastPermission ≤ length permission
   pub few : (s : ℕ) → s < c .subjects → getD used s 0 ≤ mostRoles
   pub below : (s k : ℕ) → s < c .subjects → k < getD used s 0 → at lists mostRoles s k < c .roles
-
--- a table that marks R, in front of what the buffer held behind it
-pub record Filled (n : ℕ) (R : ℕ → ℕ → Type 0) (before after : List ℕ) : Type 0 where
-  pub table : List ℕ
-  pub marked : Marked n R table
-  pub written : after ≡ over table before
 
 -- tables whose channels can be filled in
 pub record Fillable (l : Lent) (channels : List ℕ) : Type 0 where

@@ -4,10 +4,10 @@ ghost use mathlib.Core.Path.{_≡_};
 ghost use Prim.Native.Nat.{_+_, _*_, _≤_, _<_};
 ghost use lib.ListN.{length};
 ghost use Rattle.answers.specs.Sizes.{mostRoles, leastFlow};
-ghost use Rattle.answers.specs.Rows.{Mark, Row};
+ghost use Rattle.answers.specs.Rows.{Mark, Row, Filled};
 ghost use Rattle.answers.specs.Sheet.{entities, lent, sheetIn};
 ghost use Rattle.access.specs.Channel.{Has, May, Channel};
-ghost use Rattle.access.specs.Inner.{Answers, RolesOf, Gatherable, Lists, OnList, ModeOn, ListChannel, Askable, Filled, Fillable};
+ghost use Rattle.access.specs.Inner.{Answers, RolesOf, Gatherable, Lists, OnList, ModeOn, ListChannel, Askable, Fillable};
 
 const READ: u8 = 1;
 

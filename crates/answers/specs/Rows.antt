@@ -35,6 +35,12 @@ pub record Bytes (n : ℕ) (table : List ℕ) (x y : ℕ) : Type 0 where
 unfoldable pub over : List ℕ → List ℕ → List ℕ
 over used buffer = used ++ drop (length used) buffer
 
+-- a table of n rows that marks R, in front of what the buffer held behind it
+pub record Filled (n : ℕ) (R : ℕ → ℕ → Type 0) (before after : List ℕ) : Type 0 where
+  pub table : List ℕ
+  pub marked : Marked n R table
+  pub written : after ≡ over table before
+
 -- how many of the bytes are v
 unfoldable pub count : ℕ → List ℕ → ℕ
 count v [] = 0

@@ -1,13 +1,13 @@
 -- The rows that close the channel table of a sheet are its flow table.
 use Prim.Native.Nat.{ℕ, _*_, _≤_}
-use mathlib.Core.Path.{_≡_, refl, ap}
+use mathlib.Core.Path.{_≡_, refl}
 use mathlib.Core.Logic.{_≢_}
 use mathlib.Core.Bool.{false}
 use mathlib.Core.List.{List}
 use borrow.Author.Tests.{ltb-false}
 use lib.ListN.{length}
 use Rattle.answers.specs.Call.{firstRefusal}
-use Rattle.answers.specs.Rows.{Bytes, shorter}
+use Rattle.answers.specs.Rows.{Bytes, Filled, shorter}
 use Rattle.answers.specs.Sizes.{leastFlow}
 use Rattle.answers.specs.Sheet.{Lent, sheetIn, sheetOf, entities}
 use Rattle.answers.specs.Refusals.{sheetRefusals}
@@ -17,17 +17,16 @@ use Rattle.answers.proofs.Products.{product-within}
 use Rattle.graph.specs.Written.{FlowTable}
 use Rattle.graph.proofs.Relations.{bytes-to, bytes-from, table-agrees}
 use Rattle.access.specs.Channel.{Channel}
-use Rattle.access.specs.Inner.{Filled as ChannelsFilled, Fillable}
+use Rattle.access.specs.Inner.{Fillable}
 use Rattle.access.proofs.Filling.{sheet-inside, entities-fit}
-use Rattle.flow.specs.Fill.{Filled, fillRefusals, Fills}
+use Rattle.flow.specs.Fill.{FlowFilled, fillRefusals, Fills}
 
 -- what the engine wrote for the bytes of the channel table holds of the sheet's channels
-pub closed : (l : Lent) (scratch channels before after : List ℕ) → ChannelsFilled (entities (l .counts)) (Channel (sheetIn l)) scratch channels →
-    FlowTable (entities (l .counts)) (Bytes (entities (l .counts)) channels) before after → Filled (sheetIn l) before (0, after)
+pub closed : (l : Lent) (scratch channels before after : List ℕ) → Filled (entities (l .counts)) (Channel (sheetIn l)) scratch channels →
+    FlowTable (entities (l .counts)) (Bytes (entities (l .counts)) channels) before after → FlowFilled (sheetIn l) before after
 unfolding sheetOf
 closed l scratch channels before after f t =
-    let flow = table-agrees (bytes-to (f .marked) scratch (f .written)) (bytes-from (f .marked) scratch (f .written) (sheet-inside l)) t in
-    record { table = flow .table; marked = flow .marked; written = ap (λ (x : List ℕ). (0, x)) (flow .written) }
+    table-agrees (bytes-to (f .marked) scratch (f .written)) (bytes-from (f .marked) scratch (f .written) (sheet-inside l)) t
 
 -- a table of all entities has room
 pub table-fits : (l : Lent) (buffer : List ℕ) → Fillable l buffer → entities (l .counts) * entities (l .counts) ≤ length buffer
@@ -44,6 +43,6 @@ pub fill-refused : (l : Lent) (flow : List ℕ) (n : ℕ) → n ≡ firstRefusal
 unfolding fillRefusals
 fill-refused l flow n e some = refuse n e some refl
 
-pub fill-done : (l : Lent) (before after : List ℕ) → firstRefusal (sheetRefusals (shorter before leastFlow) false l) ≡ 0 → Filled (sheetIn l) before (0, after) → Fills l before (0, after)
+pub fill-done : (l : Lent) (before after : List ℕ) → firstRefusal (sheetRefusals (shorter before leastFlow) false l) ≡ 0 → FlowFilled (sheetIn l) before after → Fills l before (0, after)
 unfolding fillRefusals
-fill-done l before after e f = accept e f
+fill-done l before after e f = accept e (refl, f)

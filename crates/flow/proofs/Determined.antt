@@ -26,7 +26,8 @@ use Rattle.flow.specs.ChosenRow.{canChoose, chosen, ChosenRow}
 
 pub fill-determined : (l : Lent) (before : List ℕ) (r₁ r₂ : ℕ × List ℕ) → Fills l before r₁ → Fills l before r₂ → r₁ ≡ r₂
 fill-determined l before r₁ r₂ =
-    determined (λ _ a b. a .written ∙ ap (λ (t : List ℕ). (0, over t before)) (one-marked (a .marked) (b .marked)) ∙ sym (b .written))
+    determined
+    (λ _ a b i. ((a .0 ∙ sym (b .0)) i, (a .1 .written ∙ ap (λ (t : List ℕ). over t before) (one-marked (a .1 .marked) (b .1 .marked)) ∙ sym (b .1 .written)) i))
 
 -- an answer of 0 and one value is determined where the value is
 one-answer : {Right : ℕ → Type 0} → ((a b : ℕ) → Right a → Right b → a ≡ b) → {r₁ r₂ : Told} → Answered Right r₁ → Answered Right r₂ → r₁ ≡ r₂

@@ -15,11 +15,11 @@ use Rattle.access.specs.Channel.{Channel, reads, writes}
 use Rattle.theory.specs.Order.{below, Compares, only-there}
 use Rattle.theory.proofs.Orders.{EqualAnswers}
 use Rattle.flow.specs.Table.{byteRefusals, flowRefusals, entityRefusals, pairAskedRefusals}
-use Rattle.flow.specs.Fill.{SheetFlow}
+use Rattle.flow.specs.Fill.{SheetFlow, FlowFilled}
 use Rattle.flow.specs.Questions.{askedRefusals, bothAskedRefusals}
 use Rattle.flow.specs.Effects.{effectRefusals}
 use Rattle.flow.specs.ChosenRow.{canChoose}
-use Rattle.flow.proofs.Filled.{LeftBy, filled-answers}
+use Rattle.flow.proofs.Filled.{filled-answers}
 
 -- four bytes, and what the buffer has behind them
 table : ℕ → ℕ → ℕ → ℕ → List ℕ
@@ -92,7 +92,7 @@ stays {x} f = flow-closed (λ z. z ≡ x) refl (λ a b _ c. absurd (no-channel a
     no-channel a b (reads o l e h m) = omega arith
     no-channel a b (writes o l h e m) = omega arith
 
-apart-filled : LeftBy apart (9 ∷ 9 ∷ 9 ∷ 9 ∷ 8 ∷ []) (1 ∷ 0 ∷ 0 ∷ 1 ∷ 8 ∷ [])
+apart-filled : FlowFilled apart (9 ∷ 9 ∷ 9 ∷ 9 ∷ 8 ∷ []) (1 ∷ 0 ∷ 0 ∷ 1 ∷ 8 ∷ [])
 unfolding over
 apart-filled = record { table = 1 ∷ 0 ∷ 0 ∷ 1 ∷ []; marked = record { size = refl; bytes = byte }; written = refl }
   where

@@ -17,7 +17,7 @@ use Rattle.theory.proofs.Flows.{Has, flow-reflexive, flow-transitive, flow-more
 use Rattle.theory.proofs.Orders.{Agree, EqualAnswers, agree-turned, equal-answers, label-of-flow, class-named-once, named-class}
 use Rattle.theory.proofs.Effects.{more-gains, fewer-loses}
 use Rattle.access.specs.Channel.{Channel}
-use Rattle.flow.specs.Fill.{SheetFlow, Filled}
+use Rattle.flow.specs.Fill.{SheetFlow, FlowFilled}
 
 -- the bytes of a table are those of the buffer that it stands in front of
 byte-in-front : (n : ℕ) (table buffer : List ℕ) (x y : ℕ) → length table ≡ n * n → x < n → y < n → at (over table buffer) n x y ≡ at table n x y
@@ -35,20 +35,16 @@ module _ {n : ℕ} {R : ℕ → ℕ → Type 0} {table : List ℕ} (m : Marked n
         back = λ x y hx hy b. marked-yes (m .bytes x y hx hy) (sym (byte-in-front n table buffer x y (m .size) hx hy) ∙ b .byte);
       }
 
--- what filling left in the flow buffer
-abbrev pub LeftBy : Sheet → List ℕ → List ℕ → Type 0
-LeftBy t before after = Filled t before (0, after)
-
-pub filled-agrees : (t : Sheet) (before after : List ℕ) → LeftBy t before after → Agree (entities (t .counts)) (SheetFlow t) (Bytes (entities (t .counts)) after)
-filled-agrees t before after f = rw (ap (λ (r : ℕ × List ℕ). r .1) (f .written)) (marked-agrees (f .marked) before)
+pub filled-agrees : (t : Sheet) (before after : List ℕ) → FlowFilled t before after → Agree (entities (t .counts)) (SheetFlow t) (Bytes (entities (t .counts)) after)
+filled-agrees t before after f = rw (f .written) (marked-agrees (f .marked) before)
 
 -- label, class, compare and greatest are those of the sheet's flow
-pub filled-answers : (t : Sheet) (before after : List ℕ) → LeftBy t before after → (x y : ℕ) → x < entities (t .counts) → y < entities (t .counts) →
+pub filled-answers : (t : Sheet) (before after : List ℕ) → FlowFilled t before after → (x y : ℕ) → x < entities (t .counts) → y < entities (t .counts) →
     EqualAnswers (entities (t .counts)) (SheetFlow t) (Bytes (entities (t .counts)) after) x y
 filled-answers t before after f x y hx hy = equal-answers (filled-agrees t before after f) hx hy
 
 -- "In a filled table, flow from x to y holds exactly if x's label is included in y's"
-module _ (t : Sheet) (before after : List ℕ) (f : LeftBy t before after) (x y : ℕ) (hx : x < entities (t .counts)) (hy : y < entities (t .counts)) where
+module _ (t : Sheet) (before after : List ℕ) (f : FlowFilled t before after) (x y : ℕ) (hx : x < entities (t .counts)) (hy : y < entities (t .counts)) where
   agree : Agree (entities (t .counts)) (SheetFlow t) (Bytes (entities (t .counts)) after)
   agree = filled-agrees t before after f
 
@@ -64,7 +60,7 @@ pub record OneClass (n : ℕ) (R : ℕ → ℕ → Type 0) (x y a b : ℕ) : Typ
   pub one-name : Equivalent R x y → ClassName n R x a → ClassName n R y b → a ≡ b
   pub one-class : a ≡ b → ClassName n R x a → ClassName n R y b → Equivalent R x y
 
-pub classes-partition : (t : Sheet) (before after : List ℕ) → LeftBy t before after → (x y a b : ℕ) → x < entities (t .counts) → y < entities (t .counts) →
+pub classes-partition : (t : Sheet) (before after : List ℕ) → FlowFilled t before after → (x y a b : ℕ) → x < entities (t .counts) → y < entities (t .counts) →
     OneClass (entities (t .counts)) (Bytes (entities (t .counts)) after) x y a b
 classes-partition t before after f x y a b hx hy =
     let agree : Agree (entities (t .counts)) (SheetFlow t) (Bytes (entities (t .counts)) after) = filled-agrees t before after f in

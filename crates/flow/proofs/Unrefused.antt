@@ -1,6 +1,6 @@
 -- A table that filling wrote is refused by no question on an entity of the sheet.
 use Prim.Native.Nat.{ℕ, _*_, _/_, _%_, _≤_, _<_}
-use mathlib.Core.Path.{_≡_, sym, ap}
+use mathlib.Core.Path.{_≡_, sym}
 use mathlib.Core.Bool.{Bool, false}
 use mathlib.Core.List.{List}
 use native.Mathlib.Nat.{not-suc-le-zero, div-add-mod', div-lt-iff-lt-mul, mod-lt, mul-zero, pos-of-ne-zero}
@@ -16,9 +16,9 @@ use Rattle.answers.proofs.Below.{all-fail}
 use Rattle.answers.proofs.Marks.{mark-of, mark-bit}
 use Rattle.answers.proofs.Tables.{at-over}
 use Rattle.theory.specs.Flow.{here}
+use Rattle.flow.specs.Fill.{FlowFilled}
 use Rattle.flow.specs.Table.{byteRefusals, flowRefusals, entityRefusals}
 use Rattle.flow.specs.Inner.{Accepted}
-use Rattle.flow.proofs.Filled.{LeftBy}
 use Rattle.flow.proofs.Refusing.{when-sound, when-judged, asked-inside}
 
 -- ---- an accepted table passes
@@ -46,12 +46,11 @@ module _ {n : ℕ} {R : ℕ → ℕ → Type 0} {table : List ℕ} (m : Marked n
   marked-diagonal : ((x : ℕ) → R x x) → (x : ℕ) → x < n → at (over table buffer) n x x ≡ 0 → ⊥
   marked-diagonal reflexive x h e = omega (arith, at-over table buffer (m .size) h h, mark-of (m .bytes x x h h) (reflexive x))
 
-pub filled-accepted : (t : Sheet) (before after : List ℕ) → LeftBy t before after → entities (t .counts) ≤ mostEntities → leastFlow ≤ length after →
+pub filled-accepted : (t : Sheet) (before after : List ℕ) → FlowFilled t before after → entities (t .counts) ≤ mostEntities → leastFlow ≤ length after →
     Accepted (entities (t .counts)) after
 filled-accepted t before after f few room =
-    let is : after ≡ over (f .table) before = ap (λ (r : ℕ × List ℕ). r .1) (f .written) in
     record {
       sized = record { few = few; room = room };
-      bits = rw is (marked-bits (f .marked) before);
-      diagonal = rw is (marked-diagonal (f .marked) before (λ x. here));
+      bits = rw (f .written) (marked-bits (f .marked) before);
+      diagonal = rw (f .written) (marked-diagonal (f .marked) before (λ x. here));
     }

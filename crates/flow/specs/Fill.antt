@@ -5,7 +5,7 @@ use mathlib.Core.Bool.{false}
 use mathlib.Core.List.{List}
 use Rattle.answers.specs.Sizes.{leastFlow}
 use Rattle.answers.specs.Call.{Refusal, Outcome, left}
-use Rattle.answers.specs.Rows.{Marked, over, shorter}
+use Rattle.answers.specs.Rows.{Filled, shorter}
 use Rattle.answers.specs.Sheet.{Lent, Sheet, sheetIn, entities}
 use Rattle.answers.specs.Refusals.{sheetRefusals}
 use Rattle.theory.specs.Flow.{Flow}
@@ -19,12 +19,11 @@ SheetFlow t = Flow (Channel t)
 unfoldable pub fillRefusals : Lent → List ℕ → List Refusal
 fillRefusals l flow = sheetRefusals (shorter flow leastFlow) false l
 
--- "flow, N x N bytes, 0 or 1, at x x N + y", in front of what the buffer held behind it
-pub record Filled (t : Sheet) (before : List ℕ) (result : ℕ × List ℕ) : Type 0 where
-  pub table : List ℕ
-  pub marked : Marked (entities (t .counts)) (SheetFlow t) table
-  pub written : result ≡ (0, over table before)
+-- "flow, N x N bytes, 0 or 1, at x x N + y": the flow table of a sheet, in a buffer
+abbrev pub FlowFilled : Sheet → List ℕ → List ℕ → Type 0
+FlowFilled t = Filled (entities (t .counts)) (SheetFlow t)
 
 -- the contract of `fill`: the answer, and the flow buffer afterwards
 abbrev pub Fills : Lent → List ℕ → ℕ × List ℕ → Type 0
-Fills l before = Outcome (fillRefusals l before) (left before) (Filled (sheetIn l) before)
+Fills l before =
+    Outcome (fillRefusals l before) (left before) (λ result. (result .0 ≡ 0) × FlowFilled (sheetIn l) before (result .1))

@@ -7,7 +7,7 @@ ghost use Rattle.theory.specs.Order.{Equivalent, ClassName, GreatestSecrecy, Gr
 ghost use Rattle.theory.specs.Effect.{Gained, Effect};
 ghost use Rattle.answers.specs.Sheet.{lent, sheetIn};
 ghost use Rattle.access.specs.Inner.{Fillable};
-ghost use Rattle.flow.specs.Fill.{Filled, Fills};
+ghost use Rattle.flow.specs.Fill.{FlowFilled, Fills};
 ghost use Rattle.flow.specs.Table.{byteRefusals, flowRefusals, entityRefusals};
 ghost use Rattle.flow.specs.Questions.{bothAskedRefusals, Flows, Labelled, Labels, Names, Flags};
 ghost use Rattle.flow.specs.Compare.{comparison, Stands, ComparesTo};
@@ -115,7 +115,7 @@ fn both_asked_refusal(n: usize, table: &[u8], x: usize, y: usize) -> u8
 // Writes the flow table of a sheet whose tables were not refused. No lent buffer serves as scratch: the channels stand in a local table.
 fn close_channels(c: Counts, assignment: &[u8], permission: &[u8], flow: &mut [u8])
     requires { ⌜ Fillable (lent c (now assignment) (now permission)) (now flow) ⌝ }
-    ensures { λ _. ⌜ Filled (sheetIn (lent c (now (assignment .entry)) (now (permission .entry)))) (now (flow .entry)) (0, now (flow .exit)) ⌝ }
+    ensures { λ _. ⌜ FlowFilled (sheetIn (lent c (now (assignment .entry)) (now (permission .entry)))) (now (flow .entry)) (now (flow .exit)) ⌝ }
 {
     let n = c.subjects + c.objects;
     let mut channels = [0u8; 12544];

@@ -3,7 +3,7 @@ use Prim.Native.Nat.{ℕ}
 use mathlib.Core.Path.{_≡_}
 use mathlib.Core.List.{List}
 use lib.ListN.{length}
-use Rattle.answers.specs.Rows.{Mark, Row, Marked, over}
+use Rattle.answers.specs.Rows.{Mark, Row, Filled, over}
 use Rattle.theory.specs.Flow.{Flow}
 use Rattle.theory.specs.Chain.{Best}
 
@@ -12,10 +12,8 @@ abbrev pub FlowRow : ℕ → (ℕ → ℕ → Type 0) → ℕ → List ℕ → T
 FlowRow n ch x row = Row n (λ y byte. Mark (Flow ch x y) byte) row
 
 -- "flow, N x N bytes, 0 or 1, at x x N + y", in front of what the buffer held behind it
-pub record FlowTable (n : ℕ) (ch : ℕ → ℕ → Type 0) (before after : List ℕ) : Type 0 where
-  pub table : List ℕ
-  pub marked : Marked n (Flow ch) table
-  pub written : after ≡ over table before
+abbrev pub FlowTable : ℕ → (ℕ → ℕ → Type 0) → List ℕ → List ℕ → Type 0
+FlowTable n ch = Filled n (Flow ch)
 
 -- "The chain from x to y", in front of what the buffer held, and how many entities it has; where there is none 0, and the buffer as
 -- it was

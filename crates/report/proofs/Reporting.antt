@@ -23,13 +23,14 @@ use Rattle.text.specs.Reading.{Read, refused, accepted, readText}
 use Rattle.text.proofs.RoundTrip.{accepted-sound}
 use Rattle.text.proofs.RefusedLines.{refused-line-fits}
 use Rattle.sheet.specs.Read.{ReadResult, readResult, Reads}
-use Rattle.sheet.proofs.ReadDone.{ReadLong, lengths-pass, ReadDone}
+use Rattle.reader.specs.Fill.{Long}
+use Rattle.sheet.proofs.ReadDone.{lengths-pass, ReadDone}
 use Rattle.sheet.proofs.Calls.{tablesIn, sheetRead, sheet-back}
 use Rattle.access.specs.Channel.{Channel}
 use Rattle.access.proofs.Filling.{entities-fit}
-use Rattle.flow.specs.Fill.{fillRefusals, Fills}
+use Rattle.flow.specs.Fill.{fillRefusals, FlowFilled, Fills}
 use Rattle.flow.specs.Inner.{Accepted}
-use Rattle.flow.proofs.Filled.{LeftBy, filled-agrees}
+use Rattle.flow.proofs.Filled.{filled-agrees}
 use Rattle.flow.proofs.Unrefused.{filled-accepted}
 use Rattle.report.specs.Output.{EntityLines, VerdictLine, SheetLines, refusalLine, refusal, sheet-lines, Output}
 use Rattle.report.specs.Report.{leastOutput, reportRefusals, Reports}
@@ -41,11 +42,9 @@ use Rattle.report.proofs.Sizes.{output-fits}
 -- ---- the flow table of an accepted sheet
 module _ (l : Lent) (count : ℕ) (separations : List ℕ) (p : Printable l count separations) (before table : List ℕ) (answer : ℕ) (room : leastFlow ≤ length before) (call : Fills l before (answer, table)) where
   -- it is filled
-  pub is-filled : LeftBy (sheetIn l) before table
+  pub is-filled : FlowFilled (sheetIn l) before table
   unfolding fillRefusals
-  is-filled =
-      let f = call .done (tables-pass _ _ l (record { not-short = le-ltb _ _ room; not-long = refl; sized = p .sized })) in
-      record { table = f .table; marked = f .marked; written = ap (λ (r : ℕ × List ℕ). (0, r .1)) (f .written) }
+  is-filled = call .done (tables-pass _ _ l (record { not-short = le-ltb _ _ room; not-long = refl; sized = p .sized })) .1
 
   -- and can be asked
   pub is-accepted : leastFlow ≤ length table → Accepted (entities (l .counts)) table
@@ -71,7 +70,7 @@ module _ (l : Lent) (count : ℕ) (separations : List ℕ) (p : Printable l coun
       }
 
 -- ---- what was read
-module _ (text assignment permission separations : List ℕ) (long : ReadLong assignment permission separations) (result : ReadResult) (r : Reads text assignment permission separations result) where
+module _ (text assignment permission separations : List ℕ) (long : Long assignment permission separations) (result : ReadResult) (r : Reads text assignment permission separations result) where
   pub is-refused : result .reading .answer ≢ 0 → readText text ≡ refused (result .reading .answer) (result .reading .line)
   unfolding readResult
   is-refused some = go (readText text) (r .done (lengths-pass assignment permission separations long))

@@ -18,7 +18,8 @@ use Rattle.sheet.specs.Read.{ReadResult, tablesRead, Reads}
 use Rattle.sheet.specs.Write.{Writes, writeRefusals}
 use Rattle.text.proofs.RoundTrip.{accepted-sound, read-write, write-read}
 use Rattle.sheet.proofs.Accepts.{refuses-none, refused-none}
-use Rattle.sheet.proofs.ReadDone.{ReadLong, read-done, read-filled}
+use Rattle.reader.specs.Fill.{Long}
+use Rattle.sheet.proofs.ReadDone.{read-done, read-filled}
 
 -- ---- the used part of a buffer
 pub used-part : (used buffer : List ℕ) (n : ℕ) → length used ≡ n → take n (over used buffer) ≡ used
@@ -54,7 +55,7 @@ module _ (assignment permission separations : List ℕ) (t : Sheet) (p : Sound t
         used-part (t .separations) separations (2 * (length (t .separations) / 2)) (omega (arith, p .separations-size)),
       )
 
-  pub none-refused : ReadLong assignment permission separations → (before : List ℕ) → leastText ≤ length before →
+  pub none-refused : Long assignment permission separations → (before : List ℕ) → leastText ≤ length before →
       firstRefusal (writeRefusals (tablesIn filled) (filled .reading .separations) (filled .separations) before) ≡ 0
   none-refused long before room =
       let full : leastSeparations ≤ length (filled .separations) = omega (arith, long .separations-long, no-shorter (t .separations) separations) in
@@ -66,7 +67,7 @@ module _ (assignment permission separations : List ℕ) (t : Sheet) (p : Sound t
         text-long = room;
       })
 
-  written-back : ReadLong assignment permission separations → (before : List ℕ) (written : Told × List ℕ) → leastText ≤ length before →
+  written-back : Long assignment permission separations → (before : List ℕ) (written : Told × List ℕ) → leastText ≤ length before →
       WritesRead filled before written → written ≡ (told 0 (length (writeSheet t)), over (writeSheet t) before)
   written-back long before written room w = rw sheet-back at (w .done (none-refused long before room))
 
@@ -97,7 +98,7 @@ module _ (l : Lent) (count : ℕ) (listed before : List ℕ) (written : Told × 
 
   -- "sound tables written and read back are the same tables"; what the buffers held past them stays
   pub write-then-read : written .0 .answer ≡ 0 → (assignment permission separations : List ℕ) (result : ReadResult) →
-      ReadLong assignment permission separations → Reads (take (written .0 .value) (written .1)) assignment permission separations result →
+      Long assignment permission separations → Reads (take (written .0 .value) (written .1)) assignment permission separations result →
       (sheetRead result ≡ sheetOf l count listed) × (result ≡ tablesRead assignment permission separations (sheetOf l count listed))
   write-then-read answered assignment permission separations result long r =
       let t : Sheet = sheetOf l count listed in

@@ -14,7 +14,8 @@ use Rattle.text.specs.Content.{writeSheet}
 use Rattle.sheet.specs.Read.{ReadResult, tablesRead, readResult, Reads}
 use Rattle.text.proofs.Worked.{reading, workedText, worked}
 use Rattle.text.proofs.RoundTrip.{worked-sound}
-use Rattle.sheet.proofs.ReadDone.{ReadLong, lengths-pass}
+use Rattle.reader.specs.Fill.{Long}
+use Rattle.sheet.proofs.ReadDone.{lengths-pass}
 use Rattle.sheet.proofs.Calls.{used-part, sheetRead, WritesRead, none-refused, read-then-write, write-then-read}
 
 assignment : List ℕ
@@ -29,7 +30,7 @@ separations = replicate leastSeparations 0
 text : List ℕ
 text = replicate leastText 0
 
-long : ReadLong assignment permission separations
+long : Long assignment permission separations
 unfolding assignment permission separations
 long =
     record {

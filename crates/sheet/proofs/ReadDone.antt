@@ -19,13 +19,8 @@ use Rattle.frames.specs.Check.{start, check, parsedLines, framesOf}
 use Rattle.frames.proofs.Checks.{refused-number}
 use Rattle.text.specs.Content.{contentOf}
 use Rattle.text.specs.Reading.{Read, refused, accepted, readBy, readLines, readText}
+use Rattle.reader.specs.Fill.{Long}
 use Rattle.sheet.specs.Read.{ReadResult, readRefusals, tablesRead, readResult, Reads}
-
--- "Least lent lengths" of the buffers that `read` is lent
-pub record ReadLong (assignment permission separations : List ℕ) : Type 0 where
-  pub assignment-long : leastAssignment ≤ length assignment
-  pub permission-long : leastPermission ≤ length permission
-  pub separations-long : leastSeparations ≤ length separations
 
 -- a text that is refused is refused by another number than 0
 refusal-number : (text : List ℕ) (n line : ℕ) → readText text ≡ refused n line → n ≢ 0
@@ -41,7 +36,7 @@ module _ (assignment permission separations : List ℕ) where
   abbrev refusal : ℕ
   refusal = firstRefusal (readRefusals assignment permission separations)
 
-  lengths-passed : refusal ≡ 0 → ReadLong assignment permission separations
+  lengths-passed : refusal ≡ 0 → Long assignment permission separations
   unfolding readRefusals
   lengths-passed e =
       let a = passed 1 _ _ tt e in
@@ -49,7 +44,7 @@ module _ (assignment permission separations : List ℕ) where
       let c = passed 1 _ _ tt (b .1) in
       record { assignment-long = ltb-false _ _ (a .0); permission-long = ltb-false _ _ (b .0); separations-long = ltb-false _ _ (c .0) }
 
-  pub lengths-pass : ReadLong assignment permission separations → refusal ≡ 0
+  pub lengths-pass : Long assignment permission separations → refusal ≡ 0
   unfolding readRefusals firstRefusal
   lengths-pass long = rw (le-ltb _ _ (long .assignment-long), le-ltb _ _ (long .permission-long), le-ltb _ _ (long .separations-long))
 
@@ -57,7 +52,7 @@ module _ (assignment permission separations : List ℕ) where
   pub record ReadDone (text : List ℕ) (result : ReadResult) : Type 0 where
     pub sheet : Sheet
     pub reads : readText text ≡ accepted sheet
-    pub long : ReadLong assignment permission separations
+    pub long : Long assignment permission separations
     pub filled : result ≡ tablesRead assignment permission separations sheet
 
   module _ (text : List ℕ) (result : ReadResult) (r : Reads text assignment permission separations result) where
@@ -76,7 +71,7 @@ module _ (assignment permission separations : List ℕ) where
         go zero e = told-by (readText text) refl (r .done e) e
         go (suc n) e = let some : refusal ≢ 0 = λ z. suc-ne-zero n (sym e ∙ z) in absurd (some (answer (r .refusal some)))
 
-    pub read-filled : (t : Sheet) → readText text ≡ accepted t → ReadLong assignment permission separations →
+    pub read-filled : (t : Sheet) → readText text ≡ accepted t → Long assignment permission separations →
         result ≡ tablesRead assignment permission separations t
     unfolding readResult
     read-filled t e long = r .done (lengths-pass long) ∙ rw e

@@ -29,9 +29,7 @@ module _ (l : Lent) (buffer table : List ℕ) (fills : FillsForC l buffer (0, ta
 
   pub filled-table : FlowTable (entities (l .counts)) (Channel (sheetIn l)) buffer table
   unfolding sheetOf
-  filled-table =
-      let f = fills .done not-refused in
-      record { table = f .table; marked = f .marked; written = ap (λ (r : ℕ × List ℕ). r .1) (f .written) }
+  filled-table = fills .done not-refused .1
 
   module _ (count : ℕ) (separations before : List ℕ) (result : ℕ × List ℕ) (c : JudgesForC l count separations before result) where
     -- the byte of separation i
@@ -62,7 +60,7 @@ buffer = replicate 12544 5
 
 small-fill : FillsForC tables buffer (0, over (1 ∷ 1 ∷ 0 ∷ 1 ∷ []) buffer)
 unfolding firstRefusal anyBelow sheetRefusals fillRefusals tables sheetOf
-small-fill = accept refl (let f = filled buffer in record { table = f .table; marked = f .marked; written = ap (λ (t : List ℕ). (0, t)) (f .written) })
+small-fill = accept refl (refl, filled buffer)
 
 small-bytes : at (over (1 ∷ 1 ∷ 0 ∷ 1 ∷ []) buffer) 2 0 1 ≡ 1
 unfolding tables separations

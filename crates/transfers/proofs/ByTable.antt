@@ -3,11 +3,10 @@ use Prim.Native.Nat.{ℕ, _<_}
 use native.Mathlib.Omega.{arith}
 use mathlib.Core.List.{List}
 use Rattle.answers.specs.declared.Counts.{Counts}
-use Rattle.answers.specs.Rows.{Mark, at, Bytes}
+use Rattle.answers.specs.Rows.{Mark, at, Bytes, Filled}
 use Rattle.answers.specs.Sheet.{entities}
 use Rattle.answers.proofs.Marks.{marked-yes, mark-of}
 use Rattle.answers.proofs.Tables.{at-over}
-use Rattle.access.specs.Inner.{Filled}
 use Rattle.transfers.specs.declared.Act.{Act}
 use Rattle.transfers.specs.declared.Transfer.{Transfer}
 use Rattle.transfers.specs.Transfers.{Way, toSubject, toObject, Comes, moves, outside, barred, AllCome, none, next}

@@ -9,11 +9,10 @@ use Rattle.answers.specs.declared.Counts.{Counts}
 use Rattle.answers.specs.declared.Told.{Told}
 use Rattle.answers.specs.Sizes.{mostSubjects, mostObjects, mostTransfers, mostTransferBytes, leastMarks, leastVerdicts}
 use Rattle.answers.specs.Call.{Refusal, _if_, _then_, firstRefusal, told}
-use Rattle.answers.specs.Rows.{over, count, exceeds}
+use Rattle.answers.specs.Rows.{Filled, over, count, exceeds}
 use Rattle.answers.specs.Sheet.{Lent, sheetIn, entities}
 use Rattle.answers.specs.Refusals.{sheetRefusals}
 use Rattle.access.specs.Channel.{Channel}
-use Rattle.access.specs.Inner.{Filled}
 use Rattle.transfers.specs.declared.Act.{Act}
 use Rattle.transfers.specs.declared.Act.the-variants.{Moves, OutOfRange, NotPermitted}
 use Rattle.transfers.specs.declared.Transfer.{Transfer}

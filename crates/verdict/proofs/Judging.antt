@@ -8,7 +8,7 @@ use native.Mathlib.Omega.{arith}
 use borrow.Author.Tests.{ltb-false}
 use lib.ListN.{length, getD}
 use Rattle.answers.specs.Call.{Refusal, firstRefusal}
-use Rattle.answers.specs.Rows.{Mark, Bytes, shorter}
+use Rattle.answers.specs.Rows.{Mark, Bytes, Filled, shorter}
 use Rattle.answers.specs.Sizes.{leastChain, leastSeparations}
 use Rattle.answers.specs.Sheet.{Lent, sheetIn, sheetOf, entities, from, to}
 use Rattle.answers.specs.Refusals.{sheetRefusals, separationRefusals}
@@ -21,7 +21,6 @@ use Rattle.theory.proofs.Chains.{best-agrees}
 use Rattle.graph.specs.Written.{FlowRow, ShownChain, shown, missing}
 use Rattle.graph.specs.Distance.{Smallest}
 use Rattle.access.specs.Channel.{Channel}
-use Rattle.access.specs.Inner.{Filled}
 use Rattle.verdict.specs.declared.Judged.{Judged}
 use Rattle.verdict.specs.Judge.{Broken, FirstBroken, judged, Verdict, hold, broken, judgeRefusals, Judges}
 use Rattle.verdict.specs.Inner.{HeldRow, Judgeable}

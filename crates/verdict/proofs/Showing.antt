@@ -11,7 +11,7 @@ use mir.Syntax.{w64}
 use mir.Val.{Fits}
 use Rattle.answers.specs.declared.Told.{Told}
 use Rattle.answers.specs.Call.{Refusal, _if_, _then_, firstRefusal, told}
-use Rattle.answers.specs.Rows.{Bytes, shorter}
+use Rattle.answers.specs.Rows.{Bytes, Filled, shorter}
 use Rattle.answers.specs.Sizes.{leastChain}
 use Rattle.answers.specs.Sheet.{Lent, sheetIn, entities}
 use Rattle.answers.specs.Refusals.{sheetRefusals}
@@ -22,7 +22,6 @@ use Rattle.theory.proofs.Chains.{chain-long}
 use Rattle.graph.specs.Written.{ShownChain, shown as written, missing as none}
 use Rattle.graph.proofs.Relations.{bytes-to, bytes-from, chain-agrees}
 use Rattle.access.specs.Channel.{Channel}
-use Rattle.access.specs.Inner.{Filled}
 use Rattle.access.proofs.Filling.{sheet-inside}
 use Rattle.verdict.specs.Shown.{Shown, shown, missing, chainRefusals, Shows}
 use Rattle.verdict.specs.Inner.{Showable}
