@@ -1,6 +1,7 @@
 -- What the functions that write lines do to a text. No promise: it only ties functions together.
 use Prim.Native.Nat.{ℕ, zero, suc, _+_, _*_, _≤_, _<_}
 use mathlib.Core.Path.{_≡_}
+use mathlib.Core.Bool.{Bool, true, false}
 use mathlib.Core.List.{List, [], _∷_}
 use lib.ListN.{length}
 use lib.Seq.{sets}
@@ -10,7 +11,7 @@ use Rattle.answers.specs.Sheet.{Lent, Sheet, entities}
 use Rattle.answers.specs.Inner.{Sized, Listed}
 use Rattle.frames.specs.declared.Frame.{Frame}
 use Rattle.frames.specs.Frame.{textOf}
-use Rattle.text.specs.Content.{writeSheet}
+use Rattle.text.specs.Content.{assignAt, permitAt, writeSheet}
 use Rattle.scribe.specs.declared.Pen.{Pen}
 
 abbrev pub penAt : ℕ → ℕ → Pen
@@ -31,6 +32,11 @@ pub record Room (frames : List Frame) (pen : Pen) (text : List ℕ) : Type 0 whe
 unfoldable pub shown : ℕ → Frame → List Frame
 shown zero frame = []
 shown (suc v) frame = frame ∷ []
+
+-- the frame of a byte of the permission table, or else of the assignment table
+unfoldable pub frameAt : Bool → ℕ → ℕ → ℕ → Frame
+frameAt true = permitAt
+frameAt false = assignAt
 
 -- place i of a table whose rows have `width` bytes: its row and its column are below 64, the most of any count, and so are bytes
 pub record InRows (width i : ℕ) : Type 0 where

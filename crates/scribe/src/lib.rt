@@ -8,8 +8,8 @@ ghost use Rattle.digits.specs.Line.{lineOf};
 ghost use Rattle.digits.specs.Inner.{Put};
 ghost use Rattle.frames.specs.declared.Frame.the-variants.{Header};
 ghost use Rattle.frames.specs.Frame.{frameBytes};
-ghost use Rattle.text.specs.Content.{present, assignAt, permitAt, separates, closing};
-ghost use Rattle.scribe.specs.Put.{penAt, Puts, Room, shown, InRows, Table, Ready, Written};
+ghost use Rattle.text.specs.Content.{present, separates, closing};
+ghost use Rattle.scribe.specs.Put.{penAt, Puts, Room, shown, frameAt, InRows, Table, Ready, Written};
 
 const HEADER: u8 = 1;
 
@@ -71,74 +71,49 @@ fn put_frame(text: &mut [u8], pen: Pen, frame: frames::Frame) -> Pen
     }
 }
 
-// The frame of a table's byte, where the byte is not 0.
-fn put_present(text: &mut [u8], pen: Pen, byte: u8, frame: frames::Frame) -> Pen
-    requires { ⌜ Room (shown byte frame) pen (now text) ⌝ }
-    ensures { λ r. ⌜ Puts (shown byte frame) pen (now (text .entry)) r (now (text .exit)) ⌝ }
+// The frame of the byte at place `i` of a table with rows of `width` bytes: an assignment, or a permission whose mode is the byte.
+fn frame_at(permits: bool, width: usize, i: usize, byte: u8) -> frames::Frame
+    requires { ⌜ InRows width i ⌝ }
+    ensures { λ r. ⌜ r ≡ frameAt permits width i byte ⌝ }
+{
+    let row = (i / width) as u8;
+    let place = (i % width) as u8;
+    if permits {
+        return frames::Frame::Permit(row, place, byte);
+    }
+    frames::Frame::Assign(row, place)
+}
+
+// The line of that byte, where it is not 0.
+fn put_cell(text: &mut [u8], pen: Pen, permits: bool, width: usize, i: usize, byte: u8) -> Pen
+    requires { ⌜ InRows width i ⌝ }
+    requires { ⌜ Room (shown byte (frameAt permits width i byte)) pen (now text) ⌝ }
+    ensures { λ r. ⌜ Puts (shown byte (frameAt permits width i byte)) pen (now (text .entry)) r (now (text .exit)) ⌝ }
 {
     if byte == 0 {
         return pen;
     }
-    put_frame(text, pen, frame)
+    put_frame(text, pen, frame_at(permits, width, i, byte))
 }
 
-// The frame of the assignment at place `i`.
-fn assign_at(roles: usize, i: usize, byte: u8) -> frames::Frame
-    requires { ⌜ InRows roles i ⌝ }
-    ensures { λ r. ⌜ r ≡ assignAt roles i byte ⌝ }
-{
-    frames::Frame::Assign((i / roles) as u8, (i % roles) as u8)
-}
-
-// The frame of the permission at place `i`, whose mode is the byte there.
-fn permit_at(objects: usize, i: usize, byte: u8) -> frames::Frame
-    requires { ⌜ InRows objects i ⌝ }
-    ensures { λ r. ⌜ r ≡ permitAt objects i byte ⌝ }
-{
-    frames::Frame::Permit((i / objects) as u8, (i % objects) as u8, byte)
-}
-
-// The lines of the assignments of `subjects` x `roles` bytes.
-fn put_assigned(
+// The lines of a table of `rows` x `width` bytes.
+fn put_table(
     text: &mut [u8],
     start: Pen,
-    subjects: usize,
-    roles: usize,
-    assignment: &[u8],
+    permits: bool,
+    rows: usize,
+    width: usize,
+    table: &[u8],
 ) -> Pen
-    requires { ⌜ Table subjects roles (now assignment) ⌝ }
-    requires { ⌜ Room (present (assignAt roles) 0 (take (subjects * roles) (now assignment))) start (now text) ⌝ }
-    ensures { λ r. ⌜ Puts (present (assignAt roles) 0 (take (subjects * roles) (now (assignment .entry)))) start (now (text .entry)) r (now (text .exit)) ⌝ }
+    requires { ⌜ Table rows width (now table) ⌝ }
+    requires { ⌜ Room (present (frameAt permits width) 0 (take (rows * width) (now table))) start (now text) ⌝ }
+    ensures { λ r. ⌜ Puts (present (frameAt permits width) 0 (take (rows * width) (now (table .entry)))) start (now (text .entry)) r (now (text .exit)) ⌝ }
 {
-    let used = subjects * roles;
+    let used = rows * width;
     let mut pen = start;
     let mut i = 0;
     while i < used {
-        let byte = assignment[i];
-        pen = put_present(text, pen, byte, assign_at(roles, i, byte));
-        i += 1;
-    }
-    pen
-}
-
-// The lines of the permissions of `roles` x `objects` bytes.
-fn put_permitted(
-    text: &mut [u8],
-    start: Pen,
-    roles: usize,
-    objects: usize,
-    permission: &[u8],
-) -> Pen
-    requires { ⌜ Table roles objects (now permission) ⌝ }
-    requires { ⌜ Room (present (permitAt objects) 0 (take (roles * objects) (now permission))) start (now text) ⌝ }
-    ensures { λ r. ⌜ Puts (present (permitAt objects) 0 (take (roles * objects) (now (permission .entry)))) start (now (text .entry)) r (now (text .exit)) ⌝ }
-{
-    let used = roles * objects;
-    let mut pen = start;
-    let mut i = 0;
-    while i < used {
-        let byte = permission[i];
-        pen = put_present(text, pen, byte, permit_at(objects, i, byte));
+        pen = put_cell(text, pen, permits, width, i, table[i]);
         i += 1;
     }
     pen
@@ -202,8 +177,22 @@ pub fn write_tables(
     ensures { λ r. ⌜ Written (sheetOf (lent counts (now (assignment .entry)) (now (permission .entry))) count (now (separations .entry))) (now (text .entry)) r (now (text .exit)) ⌝ }
 {
     let header = put_header(text, counts);
-    let assigned = put_assigned(text, header, counts.subjects, counts.roles, assignment);
-    let permitted = put_permitted(text, assigned, counts.roles, counts.objects, permission);
+    let assigned = put_table(
+        text,
+        header,
+        false,
+        counts.subjects,
+        counts.roles,
+        assignment,
+    );
+    let permitted = put_table(
+        text,
+        assigned,
+        true,
+        counts.roles,
+        counts.objects,
+        permission,
+    );
     let separated = put_separated(text, permitted, count, separations);
     let end = put_end(text, separated);
     end.at
