@@ -67,7 +67,7 @@ int main(void) {
             printf(" [%s]", name[chain[i]]);
         }
         printf("\n");
-        return 0;
+        return 1;
     default:
         printf("the separations are refused: %u\n", (unsigned)SIEVEMARL_ANSWER(verdict));
         return 1;

@@ -122,6 +122,23 @@ fn agrees(l: &Lent, random: &mut Random) -> bool {
     answers == (filled, judged) && a.holds(&l.assignment) && p.holds(&l.permission) && pairs.holds(&l.separations) && f.holds(&flow) && c.holds(&chain)
 }
 
+// A buffer of more than 2^32 bytes is not too short: no length is cut at the border. Its pages are not touched past the used part.
+fn huge_buffers(random: &mut Random) -> bool {
+    let t = largest();
+    let l = lend(&t, random);
+    let mut long = vec![0u8; (1 << 32) + 5];
+    let [s, o, r, count] = l.numbers;
+    let (a, p, pairs) = (&l.assignment, &l.permission, &l.separations);
+    // SAFETY: as above.
+    let filled = unsafe { sievemarl_fill_flow(s, o, r, a.as_ptr(), a.len(), p.as_ptr(), p.len(), long.as_mut_ptr(), long.len()) };
+    let flow = t.flow_bytes();
+    let right = filled == 0 && long[..flow.len()] == flow && long[flow.len()..][..4096].iter().all(|&b| b == 0);
+    // SAFETY: as above.
+    let judged = unsafe { sievemarl_judge(s, o, r, a.as_ptr(), a.len(), p.as_ptr(), p.len(), count, pairs.as_ptr(), pairs.len(), long.as_mut_ptr(), long.len()) };
+    let (i, chain) = t.broken().unwrap();
+    right && judged == 14 + 256 * i as u32 + 65536 * chain.len() as u32 && long[..chain.len()] == chain
+}
+
 fn main() {
     let words: Vec<String> = std::env::args().collect();
     let mut random = Random(words.get(1).map_or(20261115, |w| w.parse::<u64>().unwrap()) | 1);
@@ -142,7 +159,9 @@ fn main() {
         all.push(l);
         all.push(other);
     }
-    let failed = all.iter().filter(|l| !agrees(l, r)).count();
-    println!("{} passed, {} failed", all.len() - failed, failed);
+    let mut results: Vec<bool> = all.iter().map(|l| agrees(l, r)).collect();
+    results.push(huge_buffers(r));
+    let failed = results.iter().filter(|ok| !**ok).count();
+    println!("{} passed, {} failed", results.len() - failed, failed);
     std::process::exit((failed > 0) as i32);
 }
