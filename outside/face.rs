@@ -122,11 +122,20 @@ fn agrees(l: &Lent, random: &mut Random) -> bool {
     answers == (filled, judged) && a.holds(&l.assignment) && p.holds(&l.permission) && pairs.holds(&l.separations) && f.holds(&flow) && c.holds(&chain)
 }
 
-// A buffer of more than 2^32 bytes is not too short: no length is cut at the border. Its pages are not touched past the used part.
-fn huge_buffers(random: &mut Random) -> bool {
+// So many zeros, in pages that are not touched yet, where the system has them to give.
+fn zeros(size: usize) -> Option<Vec<u8>> {
+    let layout = std::alloc::Layout::array::<u8>(size).unwrap();
+    // SAFETY: the layout has a size, and the zeros are bytes of a vector with this layout.
+    unsafe {
+        let start = std::alloc::alloc_zeroed(layout);
+        (!start.is_null()).then(|| Vec::from_raw_parts(start, size, size))
+    }
+}
+
+// A buffer of more than 2^32 bytes is not too short: no length is cut at the border.
+fn huge_buffers(mut long: Vec<u8>, random: &mut Random) -> bool {
     let t = largest();
     let l = lend(&t, random);
-    let mut long = vec![0u8; (1 << 32) + 5];
     let [s, o, r, count] = l.numbers;
     let (a, p, pairs) = (&l.assignment, &l.permission, &l.separations);
     // SAFETY: as above.
@@ -160,7 +169,10 @@ fn main() {
         all.push(other);
     }
     let mut results: Vec<bool> = all.iter().map(|l| agrees(l, r)).collect();
-    results.push(huge_buffers(r));
+    match zeros((1 << 32) + 5) {
+        Some(long) => results.push(huge_buffers(long, r)),
+        None => println!("not run, since there is no memory for it: a buffer of more than 2^32 bytes"),
+    }
     let failed = results.iter().filter(|ok| !**ok).count();
     println!("{} passed, {} failed", results.len() - failed, failed);
     std::process::exit((failed > 0) as i32);

@@ -309,12 +309,34 @@ fn worked_points(random: &mut Random) -> Vec<Case> {
     all
 }
 
+// A faulty pair after a broken separation still refuses, and 64 separations that hold are all judged.
+fn judged_lists(random: &mut Random) -> Vec<Case> {
+    let mut all = vec![];
+    for (pairs, answer) in [(vec![(0, 0), (0, 16)], 6), (vec![(0, 0), (0, 0)], 7), (vec![(1, 1), (0, 1)], 7), (vec![(0, 0), (16, 0), (0, 0)], 6)] {
+        let mut t = Sheet::blank(8, 8, 1);
+        t.separations = pairs;
+        let c = judge_case(&t, random);
+        assert_eq!(c.expected().numbers[0], answer);
+        all.push(c);
+    }
+    let mut t = Sheet::blank(9, 0, 0);
+    t.separations = (0..81).map(|i| (i / 9, i % 9)).filter(|(x, y)| x != y).take(64).collect();
+    let holds = judge_case(&t, random);
+    assert_eq!(holds.expected().numbers[..3], [0, 0, 0]);
+    t.separations[63] = (8, 8);
+    let last = judge_case(&t, random);
+    assert_eq!(last.expected().numbers[..3], [14, 63, 1]);
+    all.extend([holds, last]);
+    all
+}
+
 fn random_cases(seed: u64, count: usize) -> Vec<Case> {
     let mut random = Random(seed | 1);
     let r = &mut random;
     let mut all = gains_and_loses(r);
     all.extend(rehearsal_limits(r));
     all.extend(worked_points(r));
+    all.extend(judged_lists(r));
     all.push(case(NEW_TALLY, vec![], vec![]));
     for t in made_sheets() {
         all.extend(calls_on(&t, 12, r));
