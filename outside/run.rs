@@ -204,7 +204,9 @@ fn calls_on(t: &Sheet, pairs: usize, random: &mut Random) -> Vec<Case> {
     let (change, changed) = change_case(t, random);
     let (before, after) = (t.flow_bytes(), changed.flow_bytes());
     let mut all = vec![fill_case(t, random), change, effect_case(n, &before, &after, random), row_case(n, &before, &after, random)];
-    for table in [before, any_table(n, random)] {
+    let (one, other) = (any_table(n, random), any_table(n, random));
+    all.push(effect_case(n, &one, &other, random));
+    for table in [before, one] {
         all.extend(questions(n, &lent(&table, FLOW, random), random));
     }
     for _ in 0..3 {
@@ -242,17 +244,22 @@ fn made_sheets() -> Vec<Sheet> {
     all
 }
 
-// A mode changed from 1 to 2 takes data away and brings other data: some label both gains and loses.
+// A mode changed from 1 to 2: some label gains and another loses. No single change makes one label do both, but two changes can: a
+// subject that reads another object in place of the first.
 fn gains_and_loses(random: &mut Random) -> Vec<Case> {
-    let mut t = Sheet::blank(2, 1, 2);
+    let mut t = Sheet::blank(2, 2, 2);
     t.assignment = vec![1, 0, 0, 1];
-    t.permission = vec![1, 3];
-    let mut after = t.clone();
-    after.permission[0] = 2;
-    let c = effect_case(3, &t.flow_bytes(), &after.flow_bytes(), random);
-    let effects = &c.expected().buffers[2][..3];
-    assert!(effects.contains(&1) && effects.contains(&2), "{effects:?}");
-    vec![on_tables(SET_PERMISSION, &t, vec![0, 0, 2], vec![], random), c]
+    t.permission = vec![1, 0, 3, 0];
+    let mut turned = t.clone();
+    turned.permission[0] = 2;
+    let mut moved = t.clone();
+    moved.permission[0] = 0;
+    moved.permission[1] = 1;
+    let turn = effect_case(4, &t.flow_bytes(), &turned.flow_bytes(), random);
+    let other = effect_case(4, &t.flow_bytes(), &moved.flow_bytes(), random);
+    assert_eq!(turn.expected().buffers[2][..4], [2, 1, 1, 0]);
+    assert_eq!(other.expected().buffers[2][..4], [3, 0, 0, 0]);
+    vec![on_tables(SET_PERMISSION, &t, vec![0, 0, 2], vec![], random), turn, on_tables(SET_PERMISSION, &t, vec![0, 1, 1], vec![], random), other]
 }
 
 // The sizes at which a rehearsal just passes or is just refused.
