@@ -1,3 +1,4 @@
+-- `drive::all_cases` ends: the turns fall. The buffers keep their lengths.
 use mathlib.Core.Path.{_≡_}
 use native.Mathlib.Omega.{arith}
 use lib.ListN.{length}

@@ -1,3 +1,4 @@
+-- `drive::one_case` is safe: each length is within its buffer.
 use mathlib.Core.Path.{sym}
 use native.Mathlib.Omega.{arith}
 use lib.Seq.{length-take-le}

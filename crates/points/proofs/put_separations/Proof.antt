@@ -1,3 +1,4 @@
+-- `points::put_separations` is safe and ends: each line has room in the text.
 use Prim.Native.Nat.{_≤_, _-_}
 use mathlib.Core.Path.{_≡_}
 use native.Mathlib.Omega.{arith}

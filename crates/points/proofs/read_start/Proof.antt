@@ -1,3 +1,4 @@
+-- `points::read_start` is safe: the part is within the text.
 use mathlib.Core.Path.{sym}
 use native.Mathlib.Omega.{arith}
 use lib.Seq.{length-take-le}

@@ -1,3 +1,4 @@
+-- `points::rehearse_start` is safe: the part is within the list.
 use mathlib.Core.Path.{sym}
 use native.Mathlib.Omega.{arith}
 use lib.Seq.{length-take-le}

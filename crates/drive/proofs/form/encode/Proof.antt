@@ -1,3 +1,4 @@
+-- `drive::form::encode` is safe and ends.
 use Prim.Native.Nat.{_≤_, _-_}
 use mathlib.Core.Path.{_≡_}
 use native.Mathlib.Omega.{arith}

@@ -1,3 +1,4 @@
+-- `drive::form::number` is safe and ends: the number is cut before it grows.
 use Prim.Native.Nat.{_≤_, _-_}
 use mathlib.Core.Path.{_≡_}
 use native.Mathlib.Omega.{arith}

@@ -1,3 +1,4 @@
+-- `drive::form::read_digits` is safe: what is asked for is within the buffer.
 use mathlib.Core.Path.{sym}
 use native.Mathlib.Omega.{arith}
 use lib.Seq.{length-take-le}

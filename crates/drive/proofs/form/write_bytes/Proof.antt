@@ -1,3 +1,4 @@
+-- `drive::form::write_bytes` is safe: what is written is within the digits.
 use mathlib.Core.Path.{sym}
 use native.Mathlib.Omega.{arith}
 use lib.Seq.{length-take-le}

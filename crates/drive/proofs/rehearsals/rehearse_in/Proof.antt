@@ -1,3 +1,4 @@
+-- `drive::rehearsals::rehearse_in` is safe: as many marks are lent as there is room for.
 use mathlib.Core.Path.{sym}
 use native.Mathlib.Omega.{arith}
 use lib.Seq.{length-take-le}

@@ -1,3 +1,4 @@
+-- `drive::rehearsals::take_marks` is safe and ends.
 use Prim.Native.Nat.{_≤_, _-_}
 use mathlib.Core.Path.{_≡_}
 use lib.ListN.{length}
