@@ -1,5 +1,5 @@
 // A case for the program `drive`, and what it should answer: six numbers and six buffers, before and after. The calls, their numbers
-// and their buffers are those of drive's head comment.
+// and their buffers are those of drive's head comment. Each buffer is sent between guard bytes, which must come back as they were.
 use crate::oracle::*;
 
 #[derive(Clone, Debug, PartialEq, Eq)]
@@ -36,6 +36,12 @@ pub const REHEARSE_RECORDS: u8 = 18;
 pub const REPORT: u8 = 19;
 pub const CALLS: std::ops::RangeInclusive<u8> = READ..=REPORT;
 
+const GUARD: [u8; 16] = [0xa5; 16];
+
+fn guarded(part: &[u8]) -> Vec<u8> {
+    [&GUARD, part, &GUARD].concat()
+}
+
 fn six<T: Default>(given: Vec<T>) -> [T; 6] {
     let mut all = given;
     while all.len() < 6 {
@@ -64,10 +70,10 @@ impl Case {
             bytes.extend(n.to_be_bytes());
         }
         for b in &self.buffers {
-            bytes.extend((b.len() as u32).to_be_bytes());
+            bytes.extend((guarded(b).len() as u32).to_be_bytes());
         }
         for b in &self.buffers {
-            bytes.extend(b);
+            bytes.extend(guarded(b));
         }
         line(&bytes)
     }
@@ -271,9 +277,9 @@ impl Case {
     }
 }
 
-// The answer line of `drive` for a case.
+// The answer line of `drive` for a case; none where a length or a guard is not as it was.
 pub fn answer(case: &Case, text: &[u8]) -> Option<Answer> {
-    let size: usize = case.buffers.iter().map(|b| b.len()).sum();
+    let size: usize = case.buffers.iter().map(|b| b.len() + 2 * GUARD.len()).sum();
     let digits = text.strip_suffix(b"\n")?;
     if digits.len() != 2 * (48 + size) {
         return None;
@@ -284,10 +290,12 @@ pub fn answer(case: &Case, text: &[u8]) -> Option<Answer> {
     for (i, n) in numbers.iter_mut().enumerate() {
         *n = u64::from_be_bytes(bytes[8 * i..8 * i + 8].try_into().unwrap());
     }
-    let mut at = 48;
-    let buffers = case.buffers.each_ref().map(|b| {
-        at += b.len();
-        bytes[at - b.len()..at].to_vec()
-    });
-    Some(Answer { numbers, buffers })
+    let mut rest = &bytes[48..];
+    let mut buffers = vec![];
+    for b in &case.buffers {
+        let (part, after) = rest.split_at(b.len() + 2 * GUARD.len());
+        buffers.push(part.strip_prefix(&GUARD)?.strip_suffix(&GUARD)?.to_vec());
+        rest = after;
+    }
+    Some(Answer { numbers, buffers: six(buffers) })
 }

@@ -1,7 +1,7 @@
 // The form of cases and answers: bytes as digits, numbers as bytes.
 use libc::STDIN_FILENO;
 use libc::STDOUT_FILENO;
-ghost use Prim.Native.Nat.{_≤_, _<_, _^_};
+ghost use Prim.Native.Nat.{_+_, _≤_, _<_, _^_};
 
 // The value of a digit; 0 for another byte.
 fn value(b: u8) -> u8
@@ -67,6 +67,13 @@ pub fn within(n: usize, most: usize) -> usize
         return n;
     }
     most
+}
+
+// How many of a buffer's elements are guard before and behind the part that is lent.
+pub fn guard(length: usize, most: usize) -> usize
+    ensures { λ r. ⌜ r + r ≤ length ⌝ }
+{
+    within(most, length / 2)
 }
 
 // How many digits the bytes have, as far as there is room.

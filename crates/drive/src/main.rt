@@ -27,6 +27,9 @@
 //
 // A tally is three numbers: applied, outside and barred, each modulo 2^32. Marks are numbers of four bytes, high byte first: as many as
 // the buffer has whole fours, at most 2,048. There are as many records as the buffer has whole threes, at most 4,200.
+//
+// The first and the last 16 bytes of a buffer (4 of its marks) are guards: no call is lent them, and the answer shows them too. A
+// buffer of fewer than 32 bytes is half guard before and half behind.
 mod calls;
 mod form;
 mod rehearsals;
@@ -51,6 +54,83 @@ fn read_buffers(
     form::read_line_feed();
 }
 
+// Makes a call that lends bytes alone.
+fn call_on_bytes(
+    call: u8,
+    head: &[u8],
+    a: &mut [u8],
+    b: &mut [u8],
+    c: &mut [u8],
+    d: &mut [u8],
+) -> Numbers {
+    if call < 4 {
+        return calls::of_sheet(call, head, a, b, c, d);
+    }
+    if call < 12 {
+        return calls::of_flow(call, head, a, b, c);
+    }
+    if call < 16 {
+        return calls::of_tables(call, head, a, b, c, d);
+    }
+    calls::report(a, b)
+}
+
+// The same, with each buffer lent between its guards.
+fn lend_bytes(
+    call: u8,
+    head: &[u8],
+    a: &mut [u8],
+    b: &mut [u8],
+    c: &mut [u8],
+    d: &mut [u8],
+) -> Numbers {
+    let ga = form::guard(a.len(), 16);
+    let gb = form::guard(b.len(), 16);
+    let gc = form::guard(c.len(), 16);
+    let gd = form::guard(d.len(), 16);
+    let ea = a.len() - ga;
+    let eb = b.len() - gb;
+    let ec = c.len() - gc;
+    let ed = d.len() - gd;
+    call_on_bytes(
+        call,
+        head,
+        &mut a[ga..ea],
+        &mut b[gb..eb],
+        &mut c[gc..ec],
+        &mut d[gd..ed],
+    )
+}
+
+// A call of a rehearsal, whose marks are lent between guards once they are numbers.
+fn lend_rehearsal(
+    call: u8,
+    head: &[u8],
+    a: &[u8],
+    b: &[u8],
+    c: &[u8],
+    d: &mut [u8],
+    e: &mut [u8],
+) -> Numbers {
+    let ga = form::guard(a.len(), 16);
+    let gb = form::guard(b.len(), 16);
+    let gc = form::guard(c.len(), 16);
+    let ge = form::guard(e.len(), 16);
+    let ea = a.len() - ga;
+    let eb = b.len() - gb;
+    let ec = c.len() - gc;
+    let ee = e.len() - ge;
+    rehearsals::of_rehearsal(
+        call,
+        head,
+        &a[ga..ea],
+        &b[gb..eb],
+        &c[gc..ec],
+        d,
+        &mut e[ge..ee],
+    )
+}
+
 // Makes the call that a case names.
 fn make_call(
     head: &[u8],
@@ -61,19 +141,10 @@ fn make_call(
     e: &mut [u8],
 ) -> Numbers {
     let call = form::get(head, 0);
-    if call < 4 {
-        return calls::of_sheet(call, head, a, b, c, d);
+    if 15 < call && call < 19 {
+        return lend_rehearsal(call, head, a, b, c, d, e);
     }
-    if call < 12 {
-        return calls::of_flow(call, head, a, b, c);
-    }
-    if call < 16 {
-        return calls::of_tables(call, head, a, b, c, d);
-    }
-    if call < 19 {
-        return rehearsals::of_rehearsal(call, head, a, b, c, d, e);
-    }
-    calls::report(a, b)
+    lend_bytes(call, head, a, b, c, d)
 }
 
 // Writes the answer of a case.

@@ -207,6 +207,29 @@ fn put_marks(marks: &[u32], bytes: &mut [u8]) {
     }
 }
 
+// Call 17 or 18, with the marks lent between their guards.
+fn rehearse_between(
+    call: u8,
+    head: &[u8],
+    assignment: &[u8],
+    permission: &[u8],
+    transfers: &[u8],
+    marks: &mut [u32],
+    verdicts: &mut [u8],
+) -> Tallied {
+    let guard = form::guard(marks.len(), 4);
+    let end = marks.len() - guard;
+    rehearse(
+        call,
+        head,
+        assignment,
+        permission,
+        transfers,
+        &mut marks[guard..end],
+        verdicts,
+    )
+}
+
 // The marks come out of their buffer, and go back.
 fn rehearse_marked(
     call: u8,
@@ -219,7 +242,7 @@ fn rehearse_marked(
     marks: &mut [u32],
 ) -> Tallied {
     take_marks(bytes, marks);
-    let r = rehearse(
+    let r = rehearse_between(
         call,
         head,
         assignment,
@@ -232,7 +255,7 @@ fn rehearse_marked(
     r
 }
 
-// There are as many marks as their buffer has whole fours, as far as there is room.
+// There are as many marks, guards too, as their buffer has whole fours, as far as there is room.
 fn rehearse_in(
     call: u8,
     head: &[u8],
