@@ -1,7 +1,8 @@
 -- Laws of channels, over any assignment and whatever a role holds.
-use Prim.Native.Nat.{ℕ, _+_, _-_, _≤_, _<_}
+use Prim.Native.Nat.{ℕ, _-_, _≤_, _<_}
 use mathlib.Core.Path.{_≡_, refl, subst}
-use mathlib.Core.Logic.{_⊎_, inl, inr}
+use mathlib.Core.Logic.{_⊎_, inl, inr, _≢_}
+use native.Mathlib.Decide.{ℕ-discrete}
 use native.Mathlib.Omega.{arith}
 use Rattle.answers.specs.declared.Counts.{Counts}
 use Rattle.answers.specs.Sheet.{entities, objectEntity}
@@ -43,8 +44,15 @@ module _ {c : Counts} {assigned : ℕ → ℕ → Type 0} {held : ℕ → ℕ �
   carries s o p q r hs ho hp g w =
       step (step here (reads o ho refl hs (record { by = q; grants = g }))) (writes p hp hs refl (record { by = r; grants = w }))
 
--- more assignments and more that is held: more channels
-module _ {c : Counts} {assigned assigned′ : ℕ → ℕ → Type 0} {held held′ : ℕ → ℕ → ℕ → Type 0} (more : (s r : ℕ) → s < c .subjects → r < c .roles → assigned s r → assigned′ s r) (reads-more : (r o : ℕ) → r < c .roles → o < c .objects → held r o read → held′ r o read) (writes-more : (r o : ℕ) → r < c .roles → o < c .objects → held r o write → held′ r o write) where
+-- ---- more assignments and more that is held: more channels
+abbrev pub HoldsMore : Counts → (held held′ : ℕ → ℕ → ℕ → Type 0) → ℕ → Type 0
+HoldsMore c held held′ wanted = (r o : ℕ) → r < c .roles → o < c .objects → held r o wanted → held′ r o wanted
+
+-- the same but on object p
+abbrev pub HoldsMoreBut : ℕ → Counts → (held held′ : ℕ → ℕ → ℕ → Type 0) → ℕ → Type 0
+HoldsMoreBut p c held held′ wanted = (r o : ℕ) → r < c .roles → o < c .objects → o ≢ p → held r o wanted → held′ r o wanted
+
+module _ {c : Counts} {assigned assigned′ : ℕ → ℕ → Type 0} {held held′ : ℕ → ℕ → ℕ → Type 0} (more : (s r : ℕ) → s < c .subjects → r < c .roles → assigned s r → assigned′ s r) where
   may-more : {wanted s o : ℕ} → ((r : ℕ) → r < c .roles → held r o wanted → held′ r o wanted) → s < c .subjects → May c assigned held wanted s o → May c assigned′ held′ wanted s o
   may-more holds-more hs m =
       let g = m .grants in
@@ -53,9 +61,29 @@ module _ {c : Counts} {assigned assigned′ : ℕ → ℕ → Type 0} {held held
         grants = record { role = g .role; has-role = more _ _ hs (g .role) (g .has-role); holds = holds-more _ (g .role) (g .holds) };
       }
 
-  pub channel-more : Has (ChannelOf c assigned′ held′) (ChannelOf c assigned held)
-  channel-more x y (reads o l e h m) = reads o l e h (may-more (λ r k. reads-more r o k l) h m)
-  channel-more x y (writes o l h e m) = writes o l h e (may-more (λ r k. writes-more r o k l) h m)
+  pub channel-more : HoldsMore c held held′ read → HoldsMore c held held′ write → Has (ChannelOf c assigned′ held′) (ChannelOf c assigned held)
+  channel-more reads-more writes-more x y (reads o l e h m) = reads o l e h (may-more (λ r k. reads-more r o k l) h m)
+  channel-more reads-more writes-more x y (writes o l h e m) = writes o l h e (may-more (λ r k. writes-more r o k l) h m)
+
+  -- but where object p is read: each channel is kept, or starts at p
+  pub channel-but-from : (p : ℕ) → HoldsMoreBut p c held held′ read → HoldsMore c held held′ write →
+      (x y : ℕ) → ChannelOf c assigned held x y → ChannelOf c assigned′ held′ x y ⊎ (x ≡ objectEntity c p)
+  channel-but-from p reads-more writes-more x y (writes o l h e m) = inl (writes o l h e (may-more (λ r k. writes-more r o k l) h m))
+  channel-but-from p reads-more writes-more x y (reads o l e h m) = go (ℕ-discrete o p)
+    where
+      go : Dec (o ≡ p) → ChannelOf c assigned′ held′ x y ⊎ (x ≡ objectEntity c p)
+      go (yes same) = inr (rw same at e)
+      go (no other) = inl (reads o l e h (may-more (λ r k. reads-more r o k l other) h m))
+
+  -- but where object p is written: each channel is kept, or ends at p
+  pub channel-but-to : (p : ℕ) → HoldsMore c held held′ read → HoldsMoreBut p c held held′ write →
+      (x y : ℕ) → ChannelOf c assigned held x y → ChannelOf c assigned′ held′ x y ⊎ (y ≡ objectEntity c p)
+  channel-but-to p reads-more writes-more x y (reads o l e h m) = inl (reads o l e h (may-more (λ r k. reads-more r o k l) h m))
+  channel-but-to p reads-more writes-more x y (writes o l h e m) = go (ℕ-discrete o p)
+    where
+      go : Dec (o ≡ p) → ChannelOf c assigned′ held′ x y ⊎ (y ≡ objectEntity c p)
+      go (yes same) = inr (rw same at e)
+      go (no other) = inl (writes o l h e (may-more (λ r k. writes-more r o k l other) h m))
 
 -- a role that no subject has makes no channel: whatever it holds, the channels are the same
 module _ {c : Counts} {assigned : ℕ → ℕ → Type 0} {held held′ : ℕ → ℕ → ℕ → Type 0} (r : ℕ) (nobody : (s : ℕ) → s < c .subjects → assigned s r → ⊥) (others : (q o m : ℕ) → (q ≡ r → ⊥) → held q o m → held′ q o m) where

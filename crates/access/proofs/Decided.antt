@@ -1,7 +1,7 @@
 -- Each pair of entities of a sheet has a channel or none; so flow is decided, and the chain exists exactly if there is flow.
-use Prim.Native.Nat.{ℕ, _+_, _-_, _≤_, _<_}
-use mathlib.Core.Path.{_≡_, refl}
-use mathlib.Core.Logic.{_⊎_, inl, inr, Dec·and}
+use Prim.Native.Nat.{ℕ, _-_, _≤_, _<_}
+use mathlib.Core.Path.{_≡_}
+use mathlib.Core.Logic.{inl, inr, Dec·and}
 use mathlib.Core.List.{List}
 use native.Mathlib.Decide.{ℕ-discrete, decLe, decLt, map-dec}
 use native.Mathlib.Omega.{arith}
@@ -11,8 +11,8 @@ use Rattle.theory.specs.Flow.{Flow}
 use Rattle.theory.specs.Chain.{Best}
 use Rattle.theory.specs.Order.{Order, Compares}
 use Rattle.theory.proofs.Orders.{some-order}
-use Rattle.theory.proofs.Exists.{First, found, nothing, first-below, best-exists, best-flow, best-fits, flow-decided}
-use Rattle.access.specs.Channel.{read, write, Has, Assigned, Plain, Grants, May, ChannelOf, reads, writes, Channel}
+use Rattle.theory.proofs.Exists.{First, found, nothing, first-below, best-exists, best-flow, flow-decided}
+use Rattle.access.specs.Channel.{read, write, Has, Grants, May, ChannelOf, reads, writes, Channel}
 use Rattle.access.proofs.Channels.{channel-inside, by-write, by-read}
 
 module _ {c : Counts} {assigned : ℕ → ℕ → Type 0} {held : ℕ → ℕ → ℕ → Type 0} (has-role? : (s r : ℕ) → Dec (assigned s r)) (holds? : (r o m : ℕ) → Dec (held r o m)) where
@@ -58,7 +58,7 @@ module _ {c : Counts} {assigned : ℕ → ℕ → Type 0} {held : ℕ → ℕ �
         go (no h) = readable (omega arith) (Dec·and (decLt y (c .subjects)) (decLt x (entities c)))
 
 -- ---- a sheet
-has-decided : (m wanted : ℕ) → Dec (Has m wanted)
+pub has-decided : (m wanted : ℕ) → Dec (Has m wanted)
 has-decided m wanted = go (ℕ-discrete m wanted) (ℕ-discrete m 3)
   where
     go : Dec (m ≡ wanted) → Dec (m ≡ 3) → Dec (Has m wanted)

@@ -1,14 +1,14 @@
 -- A sheet with two subjects, two objects and three roles. Subject 0 has role 0, which reads object 0, and role 1, which writes
 -- object 1; nobody has role 2, which has both on both. What the definitions say of it.
 use Prim.Native.Nat.{ℕ, zero, suc, _<_}
-use mathlib.Core.Path.{_≡_, refl}
+use mathlib.Core.Path.{refl}
 use mathlib.Core.Logic.{inl, inr}
-use mathlib.Core.List.{List, [], _∷_}
+use mathlib.Core.List.{[], _∷_}
 use native.Mathlib.Omega.{arith}
 use lib.Dec.{lit<}
 use Rattle.answers.specs.Sheet.{Sheet, counts}
 use Rattle.theory.specs.Flow.{Flow}
-use Rattle.access.specs.Channel.{read, write, Assigned, Plain, Grants, May, ChannelOf, reads, writes, Channel}
+use Rattle.access.specs.Channel.{read, write, Assigned, Plain, Grants, reads, writes, Channel}
 use Rattle.access.proofs.Channels.{carries}
 
 abbrev small : Sheet

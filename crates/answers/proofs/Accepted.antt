@@ -1,24 +1,20 @@
 -- Tables that no refusal meets are those of a sound sheet, and the tables of a sound sheet meet none.
-use mathlib.Core.Path.{_≡_, refl, sym, _∙_}
+use mathlib.Core.Path.{_≡_, refl}
 use mathlib.Core.Bool.{Bool, true, false, _&&_}
 use mathlib.Core.List.{List, []}
-use Prim.Native.Nat.{ℕ, zero, suc, _+_, _*_, _-_, _≤_, _<_, min}
-use native.Mathlib.Nat.{mul-le-mul}
+use Prim.Native.Nat.{ℕ, zero, suc, _+_, _*_, _-_, _≤_, _<_}
 use native.Mathlib.Numerals.{add-one}
 use native.Mathlib.Omega.{arith}
-use borrow.Author.Tests.{ltb-true, ltb-false, leb-true, leb-false, lt-ltb, le-ltb, lt-leb}
-use lib.Dec.{T, ltb, leb}
-use lib.ListN.{length, getD, take, length-take}
-use lib.Seq.{getD-take, length-take-le}
-use Rattle.answers.specs.Sizes.{leastSeparations}
+use borrow.Author.Tests.{ltb-true, ltb-false, leb-false, lt-ltb, le-ltb, lt-leb}
+use lib.Dec.{T, ltb}
+use lib.ListN.{getD}
 use Rattle.answers.specs.Call.{firstRefusal, _then_, eachBelow}
 use Rattle.answers.specs.Rows.{someAbove}
-use Rattle.answers.specs.Sheet.{Lent, sheetOf, entities, from, to, pairKey, separationKey, Sound}
+use Rattle.answers.specs.Sheet.{Lent, from, to, separationKey}
 use Rattle.answers.specs.Refusals.{sheetRefusals, pairRefusals, separationRefusals}
 use Rattle.answers.specs.Inner.{Sized, Listed}
 use Rattle.answers.proofs.Below.{none-of, all-fail}
 use Rattle.answers.proofs.Calls.{numbered, passed, pass, passed-then, pass-then}
-use Rattle.answers.proofs.Products.{product-within}
 use Rattle.answers.proofs.Scans.{each-passes, all-pass}
 
 -- ---- a byte above

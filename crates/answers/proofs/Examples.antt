@@ -8,7 +8,7 @@ use lib.Dec.{lit<}
 use lib.ListN.{replicate}
 use Rattle.answers.specs.Call.{firstRefusal, _then_, eachBelow}
 use Rattle.answers.specs.Rows.{Bytes, anyBelow, over, count}
-use Rattle.answers.specs.Sheet.{Lent, lent, counts, sheetOf, entities, Sound}
+use Rattle.answers.specs.Sheet.{Lent, lent, counts, sheetOf, Sound}
 use Rattle.answers.specs.Refusals.{sheetRefusals, pairRefusals, separationRefusals}
 use Rattle.answers.proofs.Accepted.{tables-passed, separations-passed}
 use Rattle.answers.proofs.Sounds.{sound-of}

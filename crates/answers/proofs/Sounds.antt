@@ -1,12 +1,11 @@
 -- A call on tables goes on exactly if the sheet in them is sound and the buffers have their least lengths.
-use mathlib.Core.Path.{_≡_, refl, sym, ap₂}
-use mathlib.Core.List.{List, []}
+use mathlib.Core.Path.{_≡_, ap₂}
+use mathlib.Core.List.{List}
 use Prim.Native.Nat.{ℕ, _+_, _*_, _≤_, _<_}
-use native.Mathlib.Nat.{mul-le-mul}
 use native.Mathlib.Omega.{arith}
 use lib.ListN.{length, getD, take}
 use lib.Seq.{getD-take, length-take-le}
-use Rattle.answers.specs.Sizes.{leastAssignment, leastPermission, leastSeparations}
+use Rattle.answers.specs.Sizes.{leastAssignment, leastPermission}
 use Rattle.answers.specs.Sheet.{Lent, sheetOf, entities, from, to, pairKey, separationKey, Sound}
 use Rattle.answers.specs.Inner.{Sized, Listed}
 use Rattle.answers.proofs.Products.{product-within}

@@ -23,7 +23,7 @@ use Rattle.change.specs.Change.{
 }
 
 -- what held of each byte holds after one is set, if the new one has it of the old
-set-keeps : (P : ℕ → Type 0) (l : List ℕ) (i v : ℕ) → (P (getD l i 0) → P v) → (k : ℕ) → P (getD l k 0) → P (getD (set l i v) k 0)
+pub set-keeps : (P : ℕ → Type 0) (l : List ℕ) (i v : ℕ) → (P (getD l i 0) → P v) → (k : ℕ) → P (getD l k 0) → P (getD (set l i v) k 0)
 set-keeps P l i v new k p = go (ℕ-discrete k i) (decLt i (length l))
   where
     go : Dec (k ≡ i) → Dec (i < length l) → P (getD (set l i v) k 0)
@@ -32,7 +32,7 @@ set-keeps P l i v new k p = go (ℕ-discrete k i) (decLt i (length l))
     go (no e) d = rw (getD-set-other l i k v 0 e) p
 
 -- and the other way round
-set-kept : (P : ℕ → Type 0) (l : List ℕ) (i v : ℕ) → (P v → P (getD l i 0)) → (k : ℕ) → P (getD (set l i v) k 0) → P (getD l k 0)
+pub set-kept : (P : ℕ → Type 0) (l : List ℕ) (i v : ℕ) → (P v → P (getD l i 0)) → (k : ℕ) → P (getD (set l i v) k 0) → P (getD l k 0)
 set-kept P l i v old k p = go (ℕ-discrete k i) (decLt i (length l))
   where
     go : Dec (k ≡ i) → Dec (i < length l) → P (getD l k 0)

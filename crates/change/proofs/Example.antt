@@ -1,19 +1,16 @@
 -- One subject, two objects and one role, which reads object 0: its mode there becomes 2, so that what was read is written.
 use Prim.Native.Nat.{ℕ}
 use mathlib.Core.Path.{_≡_, refl}
-use mathlib.Core.Bool.{false}
 use mathlib.Core.Logic.{inl, inr}
 use mathlib.Core.List.{[], _∷_}
 use native.Mathlib.Omega.{arith}
-use lib.Dec.{lit<}
 use lib.ListN.{replicate}
 use Rattle.answers.specs.Call.{firstRefusal, _then_}
 use Rattle.answers.specs.Rows.{anyBelow}
 use Rattle.answers.specs.Sheet.{Lent, lent, Sheet, counts}
 use Rattle.answers.specs.Refusals.{sheetRefusals}
-use Rattle.theory.specs.Flow.{Flow, here, step}
 use Rattle.theory.proofs.Flows.{Has}
-use Rattle.access.specs.Channel.{Channel, reads, writes}
+use Rattle.access.specs.Channel.{Channel}
 use Rattle.change.specs.Change.{withAssignment, withPermission, PermissionAdds, setAssignmentRefusals, setPermissionRefusals}
 use Rattle.change.proofs.Changes.{permission-adds, assignment-takes}
 

@@ -1,5 +1,6 @@
 -- Laws of one change.
 pub mod Changes
+pub mod Turning
 pub mod Placed
 pub mod Determined
 pub mod Example

@@ -1,22 +1,19 @@
 -- The table that filling wrote: its bytes are the sheet's flows, so the questions on it are those of the sheet's flow.
-use Prim.Native.Nat.{ℕ, suc, _+_, _*_, _≤_, _<_}
-use mathlib.Core.Path.{_≡_, refl, sym, ap, _∙_}
-use mathlib.Core.Logic.{_⊎_}
-use mathlib.Core.List.{List, _++_}
-use native.Mathlib.Nat.{mul-le-mul-right}
+use Prim.Native.Nat.{ℕ, _+_, _*_, _<_}
+use mathlib.Core.Path.{_≡_, sym, _∙_}
+use mathlib.Core.List.{List}
 use native.Mathlib.Omega.{arith}
-use lib.ListN.{length, getD, drop, List·getD-append}
-use Rattle.answers.specs.Rows.{Bytes, at, Mark, Marked, over}
+use lib.ListN.{length, drop, List·getD-append}
+use Rattle.answers.specs.Rows.{Bytes, at, Marked, over}
 use Rattle.answers.specs.Sheet.{Sheet, entities}
 use Rattle.answers.proofs.Marks.{mark-of, marked-yes}
 use Rattle.answers.proofs.Products.{place-below}
 use Rattle.theory.specs.Flow.{Flow, here}
 use Rattle.theory.specs.Order.{Included, Equivalent, ClassName}
 use Rattle.theory.specs.Effect.{Effect}
-use Rattle.theory.proofs.Flows.{Has, flow-reflexive, flow-transitive, flow-more}
+use Rattle.theory.proofs.Flows.{flow-reflexive, flow-transitive}
 use Rattle.theory.proofs.Orders.{Agree, EqualAnswers, agree-turned, equal-answers, label-of-flow, class-named-once, named-class}
-use Rattle.theory.proofs.Effects.{more-gains, fewer-loses}
-use Rattle.access.specs.Channel.{Channel}
+use Rattle.theory.proofs.Effects.{effect-agrees}
 use Rattle.flow.specs.Fill.{SheetFlow, FlowFilled}
 
 -- the bytes of a table are those of the buffer that it stands in front of
@@ -77,10 +74,7 @@ classes-partition t before after f x y a b hx hy =
           record { there = agree .there x y hx hy (e .there); back = agree .there y x hy hx (e .back) };
     }
 
--- ---- "Between filled tables, a change that only adds .. never gives 2 or 3; one that only takes away never gives 1 or 3"
-module _ {n : ℕ} {ch ch′ : ℕ → ℕ → Type 0} {before after : List ℕ} (a : Agree n (Flow ch) (Bytes n before)) (b : Agree n (Flow ch′) (Bytes n after)) {x e : ℕ} (hx : x < n) where
-  pub tables-gain : Has ch′ ch → Effect n (Bytes n before) (Bytes n after) x e → (e ≡ 0) ⊎ (e ≡ 1)
-  tables-gain more = more-gains hx (λ u v hu hv p. b .there u v hu hv (flow-more more u v (a .back u v hu hv p)))
-
-  pub tables-lose : Has ch ch′ → Effect n (Bytes n before) (Bytes n after) x e → (e ≡ 0) ⊎ (e ≡ 2)
-  tables-lose fewer = fewer-loses hx (λ u v hu hv p. a .there u v hu hv (flow-more fewer u v (b .back u v hu hv p)))
+-- ---- "Between filled tables", the effect is that between the flows
+pub tables-effect : {n : ℕ} {ch ch′ : ℕ → ℕ → Type 0} {before after : List ℕ} → Agree n (Flow ch) (Bytes n before) → Agree n (Flow ch′) (Bytes n after) →
+    {x e : ℕ} → x < n → Effect n (Bytes n before) (Bytes n after) x e → Effect n (Flow ch) (Flow ch′) x e
+tables-effect a b hx = effect-agrees (agree-turned a) (agree-turned b) hx

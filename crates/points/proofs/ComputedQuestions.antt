@@ -1,6 +1,6 @@
 -- Label, class name and flags of a sheet's flow, computed: what each line 81 of the output has.
-use Prim.Native.Nat.{ℕ, zero, suc, _+_, _*_, _≤_, _<_}
-use mathlib.Core.Path.{_≡_, refl, sym, ap, _∙_}
+use Prim.Native.Nat.{ℕ, _+_, _*_, _≤_, _<_}
+use mathlib.Core.Path.{_≡_, refl, sym, _∙_}
 use mathlib.Core.Bool.{Bool, true, false, cond, not, _&&_, false≢true}
 use mathlib.Core.List.{List, [], _∷_}
 use native.Mathlib.Decide.{decLe}
@@ -8,12 +8,12 @@ use native.Mathlib.Omega.{arith}
 use borrow.Author.Tests.{eqb-true, eqb-false, eq-eqb, not-true, not-false}
 use lib.Dec.{eqb}
 use lib.ListN.{length, getD}
-use Rattle.answers.specs.Rows.{Mark, one, none, Row, anyBelow, count}
+use Rattle.answers.specs.Rows.{Mark, one, none, anyBelow}
 use Rattle.answers.specs.Sheet.{Sheet, entities}
-use Rattle.answers.proofs.Below.{found, held-by, none-of}
+use Rattle.answers.proofs.Below.{held-by, none-of}
 use Rattle.answers.proofs.Marks.{marked-yes, mark-of}
 use Rattle.theory.specs.Flow.{Flow}
-use Rattle.theory.specs.Order.{Label, LabelSize, Equivalent, ClassName, GreatestSecrecy, GreatestIntegrity, Greatest}
+use Rattle.theory.specs.Order.{Label, Equivalent, ClassName, Greatest}
 use Rattle.access.specs.Channel.{Channel}
 use Rattle.points.proofs.Computed.{chainb}
 use Rattle.points.proofs.ComputedSheet.{channelb, sheet-flows, sheet-flows-not}

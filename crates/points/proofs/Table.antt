@@ -2,16 +2,15 @@
 use Prim.Native.Nat.{ℕ, _<_}
 use mathlib.Core.Path.{_≡_, refl, sym, subst, _∙_}
 use mathlib.Core.Bool.{true, false, true≢false}
-use mathlib.Core.List.{List, [], _∷_}
-use native.Mathlib.Omega.{arith}
+use mathlib.Core.List.{[], _∷_}
 use lib.Dec.{lit<}
-use Rattle.answers.specs.Sheet.{Sheet, entities}
+use Rattle.answers.specs.Sheet.{Sheet}
 use Rattle.theory.specs.Order.{only-there}
 use Rattle.access.specs.Channel.{Channel}
 use Rattle.change.specs.Change.{withPermission}
 use Rattle.text.specs.Reading.{accepted, readText}
 use Rattle.text.proofs.Worked.{workedText, worked, reads-worked}
-use Rattle.transfers.specs.declared.Act.the-variants.{Moves, OutOfRange, NotPermitted}
+use Rattle.transfers.specs.declared.Act.the-variants.{Moves, NotPermitted}
 use Rattle.transfers.specs.Acts.{verdictBytes, after}
 use Rattle.transfers.specs.Transfers.{toSubject, toObject, moves, barred, none, next}
 use Rattle.points.specs.Points.{changed, Points}

@@ -1,5 +1,5 @@
 -- `read` answers 0 exactly if every lent buffer has its least length and the text is accepted; then the tables are in the buffers.
-use Prim.Native.Nat.{ℕ, zero, suc, _≤_}
+use Prim.Native.Nat.{ℕ, zero, suc}
 use mathlib.Core.Path.{_≡_, refl, sym, ap, _∙_}
 use mathlib.Core.Logic.{_≢_}
 use mathlib.Core.Bool.{Bool, true, false, cond}
@@ -10,7 +10,7 @@ use borrow.Author.Tests.{ltb-false, le-ltb}
 use lib.ListN.{length}
 use Rattle.answers.specs.Call.{firstRefusal}
 use Rattle.answers.specs.Rows.{exceeds}
-use Rattle.answers.specs.Sizes.{mostText, leastAssignment, leastPermission, leastSeparations}
+use Rattle.answers.specs.Sizes.{mostText}
 use Rattle.answers.specs.Sheet.{Sheet}
 use Rattle.answers.proofs.Calls.{passed}
 use Rattle.frames.specs.declared.Verdict.{Verdict}

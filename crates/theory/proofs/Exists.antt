@@ -1,12 +1,12 @@
 -- The chain exists exactly if x flows to y, and flow is decided: for channels between entities below n, each of which is there or not.
-use Prim.Native.Nat.{ℕ, zero, suc, _+_, _≤_, _<_}
+use Prim.Native.Nat.{ℕ, zero, suc, _≤_, _<_}
 use mathlib.Core.Path.{_≡_, refl, sym, ap, subst, _∙_}
 use mathlib.Core.List.{List, [], _∷_}
 use native.Mathlib.Decide.{ℕ-discrete, decLe}
 use native.Mathlib.Omega.{arith}
 use lib.ListN.{length}
 use Rattle.theory.specs.Flow.{Flow}
-use Rattle.theory.specs.Chain.{Chain, alone, link, NotAfter, ended, equal, Best}
+use Rattle.theory.specs.Chain.{Chain, alone, link, NotAfter, equal, Best}
 use Rattle.theory.proofs.Flows.{Inside}
 use Rattle.theory.proofs.Distinct.{distinct-fits}
 use Rattle.theory.proofs.Chains.{chain-flow, flow-chain, Goes, ends, on, chain-goes, chain-long, chain-less, chain-inside, only-alone, shortest-distinct}

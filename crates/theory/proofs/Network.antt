@@ -1,13 +1,12 @@
 -- A network of five entities, with channels 0 to 1, 1 to 2, 2 to 3 and 3 to 2: what the definitions say of it.
 use Prim.Native.Nat.{ℕ, zero, suc, _≤_, _<_}
 use mathlib.Core.Path.{_≡_, refl}
-use mathlib.Core.List.{List, [], _∷_}
+use mathlib.Core.List.{[], _∷_}
 use native.Mathlib.Omega.{arith}
 use lib.Dec.{lit<}
-use lib.ListN.{length, getD}
+use lib.ListN.{getD}
 use Rattle.answers.specs.Rows.{Mark, one, none, count}
 use Rattle.theory.specs.Flow.{Flow, here, step}
-use Rattle.theory.specs.Chain.{Chain, alone, link}
 use Rattle.theory.specs.Order.{
   Label,
   LabelSize,
@@ -26,7 +25,7 @@ use Rattle.theory.specs.Order.{
   neither,
   Greatest,
 }
-use Rattle.theory.specs.Effect.{Gained, Effect}
+use Rattle.theory.specs.Effect.{Effect}
 use Rattle.theory.proofs.Flows.{Inside, flow-closed, flow-closed-back, flow-reflexive, flow-transitive}
 use Rattle.theory.proofs.Orders.{theorem-1, isolated, class-named-once}
 

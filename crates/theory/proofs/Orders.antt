@@ -1,9 +1,9 @@
 -- Laws of label, class and order. Theorem 1 of document 000 is `theorem-1`.
-use Prim.Native.Nat.{ℕ, _≤_, _<_}
-use mathlib.Core.Path.{_≡_, refl, sym, ap, ap₂, _∙_}
+use Prim.Native.Nat.{ℕ, _<_}
+use mathlib.Core.Path.{_≡_, refl, sym, ap, _∙_}
 use mathlib.Core.List.{List}
 use native.Mathlib.Nat.{le-antisymm}
-use Rattle.answers.specs.Rows.{Mark, one, none, Row, count}
+use Rattle.answers.specs.Rows.{one, count}
 use Rattle.answers.proofs.Marks.{one-mark, mark-agrees, one-row}
 use Rattle.theory.specs.Flow.{Flow}
 use Rattle.theory.specs.Order.{

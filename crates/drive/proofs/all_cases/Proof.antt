@@ -1,6 +1,5 @@
 -- `drive::all_cases` ends: the turns fall. The buffers keep their lengths.
 use mathlib.Core.Path.{_≡_}
-use native.Mathlib.Omega.{arith}
 use lib.ListN.{length}
 use borrow.Author.Needs.{needs}
 use Rattle.drive.proofs.all_cases.Statement.{statement}

@@ -1,7 +1,6 @@
 -- `points::put_separations` is safe and ends: each line has room in the text.
 use Prim.Native.Nat.{_≤_, _-_}
 use mathlib.Core.Path.{_≡_}
-use native.Mathlib.Omega.{arith}
 use lib.ListN.{length}
 use borrow.Author.Needs.{needs}
 use Rattle.points.proofs.put_separations.Statement.{statement}

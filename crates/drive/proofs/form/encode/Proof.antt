@@ -1,7 +1,6 @@
 -- `drive::form::encode` is safe and ends.
 use Prim.Native.Nat.{_≤_, _-_}
 use mathlib.Core.Path.{_≡_}
-use native.Mathlib.Omega.{arith}
 use lib.ListN.{length}
 use borrow.Author.Needs.{needs}
 use Rattle.drive.proofs.form.encode.Statement.{statement}

@@ -1,8 +1,5 @@
 -- `drive::form::number` is safe and ends: the number is cut before it grows.
 use Prim.Native.Nat.{_≤_, _-_}
-use mathlib.Core.Path.{_≡_}
-use native.Mathlib.Omega.{arith}
-use lib.ListN.{length}
 use borrow.Author.Needs.{needs}
 use Rattle.drive.proofs.form.number.Statement.{statement}
 use Rattle.drive.proofs.form.number.Tie as tie
