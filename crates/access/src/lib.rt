@@ -1,5 +1,6 @@
 // What a subject may do with an object, and the channels of a sheet.
 use answers::Counts;
+use answers::sizes;
 ghost use mathlib.Core.Path.{_≡_};
 ghost use Prim.Native.Nat.{_+_, _*_, _≤_, _<_};
 ghost use lib.ListN.{length};
@@ -22,7 +23,7 @@ const CHANNEL: u8 = 1;
 const NO_CHANNEL: u8 = 0;
 
 // The places of one subject's list.
-const PLACES: usize = 48;
+const PLACES: usize = sizes::MOST_ROLES;
 
 // Whether a mode has the wanted one.
 fn has(mode: u8, wanted: u8) -> bool
@@ -158,8 +159,8 @@ pub fn fill_channels(c: Counts, assignment: &[u8], permission: &[u8], channels: 
     requires { ⌜ Fillable (lent c (now assignment) (now permission)) (now channels) ⌝ }
     ensures { λ _. ⌜ Filled (entities c) (Channel (sheetIn (lent c (now (assignment .entry)) (now (permission .entry))))) (now (channels .entry)) (now (channels .exit)) ⌝ }
 {
-    let mut lists = [0u8; 2304];
-    let mut used = [0usize; 48];
+    let mut lists = [0u8; sizes::LEAST_ASSIGNMENT];
+    let mut used = [0usize; sizes::MOST_SUBJECTS];
     gather_all(c.subjects, c.roles, assignment, &mut lists, &mut used);
     fill_rows(c, &lists, &used, permission, channels);
 }

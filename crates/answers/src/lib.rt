@@ -1,4 +1,6 @@
 // What every call shares: how it answers, and the tables of a sheet.
+pub mod sizes;
+
 ghost use mathlib.Core.Path.{_≡_};
 ghost use mathlib.Core.Bool.{_&&_, _||_};
 ghost use Prim.Native.Nat.{_+_, _-_, _*_, _<_, _≤_};
@@ -25,18 +27,6 @@ pub struct Told {
 
 // ---- what a call on tables refuses
 
-const MOST_SUBJECTS: usize = 48;
-
-const MOST_OBJECTS: usize = 64;
-
-const MOST_ROLES: usize = 48;
-
-const MOST_SEPARATIONS: usize = 64;
-
-const LEAST_ASSIGNMENT: usize = 2304;
-
-const LEAST_PERMISSION: usize = 3072;
-
 // Whether one of two tests holds. A call joins the tests of its other buffers by this: of `a || b` in a `let` only a case by case
 // account is known.
 pub fn either(a: bool, b: bool) -> bool
@@ -61,14 +51,14 @@ pub fn some_above(bytes: &[u8], used: usize, most: u8) -> bool
 }
 
 // Whether a count is over its size.
-fn counts_exceed(counts: Counts) -> bool
+pub fn counts_exceed(counts: Counts) -> bool
     ensures { λ r. ⌜ r ≡ (exceeds (counts .subjects) mostSubjects || exceeds (counts .objects) mostObjects || exceeds (counts .roles) mostRoles) ⌝ }
 {
     let some = either(
-        counts.subjects > MOST_SUBJECTS,
-        counts.objects > MOST_OBJECTS,
+        counts.subjects > sizes::MOST_SUBJECTS,
+        counts.objects > sizes::MOST_OBJECTS,
     );
-    either(some, counts.roles > MOST_ROLES)
+    either(some, counts.roles > sizes::MOST_ROLES)
 }
 
 // 1, 5 or 11 of a call on tables, 0 for none. `short` says that another buffer of the call is too short, `long` that its
@@ -83,8 +73,8 @@ pub fn sheet_refusal(
     ensures { λ r. ⌜ r ≡ firstRefusal (sheetRefusals short long (lent counts (now (assignment .entry)) (now (permission .entry)))) ⌝ }
 {
     let table_short = either(
-        assignment.len() < LEAST_ASSIGNMENT,
-        permission.len() < LEAST_PERMISSION,
+        assignment.len() < sizes::LEAST_ASSIGNMENT,
+        permission.len() < sizes::LEAST_PERMISSION,
     );
     let some_short = either(short, table_short);
     let some_over = either(counts_exceed(counts), long);
@@ -104,7 +94,7 @@ pub fn sheet_refusal(
 }
 
 // A byte as a wider number.
-fn wide(x: u8) -> usize
+pub fn wide(x: u8) -> usize
     ensures { λ r. ⌜ (r ≡ x) × (r < 256) ⌝ }
 {
     x as usize
@@ -152,7 +142,7 @@ pub fn separation_refusal(n: usize, count: usize, separations: &[u8]) -> u8
     requires { ⌜ leastSeparations ≤ length (now separations) ⌝ }
     ensures { λ r. ⌜ r ≡ firstRefusal (separationRefusals n count (now (separations .entry))) ⌝ }
 {
-    if count > MOST_SEPARATIONS {
+    if count > sizes::MOST_SEPARATIONS {
         return 8;
     }
     let mut i = 0;

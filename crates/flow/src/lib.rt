@@ -1,5 +1,7 @@
 // The flow table of a sheet, and the questions on one.
 use answers::Counts;
+use answers::Told;
+use answers::sizes;
 ghost use mathlib.Core.Path.{_≡_};
 ghost use Rattle.answers.specs.Call.{firstRefusal, _then_, told};
 ghost use Rattle.answers.specs.Rows.{Mark, Bytes};
@@ -25,14 +27,6 @@ pub enum Compared {
 }
 
 // ---- what a call on a flow table refuses
-
-const MOST_ENTITIES: usize = 112;
-
-const LEAST_FLOW: usize = 12544;
-
-const LEAST_LABEL: usize = 112;
-
-const LEAST_EFFECT: usize = 112;
 
 // Whether some entity does not flow to itself.
 fn zero_on_diagonal(n: usize, table: &[u8]) -> bool
@@ -70,10 +64,10 @@ fn flow_refusal(short: bool, n: usize, table: &[u8]) -> u8
     if short {
         return 1;
     }
-    if table.len() < LEAST_FLOW {
+    if table.len() < sizes::LEAST_FLOW {
         return 1;
     }
-    if n > MOST_ENTITIES {
+    if n > sizes::MOST_ENTITIES {
         return 5;
     }
     byte_refusal(n, table)
@@ -118,7 +112,7 @@ fn close_channels(c: Counts, assignment: &[u8], permission: &[u8], flow: &mut [u
     ensures { λ _. ⌜ FlowFilled (sheetIn (lent c (now (assignment .entry)) (now (permission .entry)))) (now (flow .entry)) (now (flow .exit)) ⌝ }
 {
     let n = c.subjects + c.objects;
-    let mut channels = [0u8; 12544];
+    let mut channels = [0u8; sizes::LEAST_FLOW];
     access::fill_channels(c, assignment, permission, &mut channels);
     graph::fill_rows(&channels, n, flow);
 }
@@ -129,7 +123,7 @@ pub fn fill(counts: Counts, assignment: &[u8], permission: &[u8], flow: &mut [u8
     ensures { λ r. ⌜ Fills (lent counts (now (assignment .entry)) (now (permission .entry))) (now (flow .entry)) (r, now (flow .exit)) ⌝ }
 {
     let refusal = answers::sheet_refusal(
-        flow.len() < LEAST_FLOW,
+        flow.len() < sizes::LEAST_FLOW,
         false,
         counts,
         assignment,
@@ -152,28 +146,21 @@ fn flow_byte(n: usize, table: &[u8], x: usize, y: usize) -> u8
     table[x * n + y]
 }
 
-// A byte as a wider number.
-fn wide(x: u8) -> usize
-    ensures { λ r. ⌜ r ≡ x ⌝ }
-{
-    x as usize
-}
-
 // Whether `x` flows to `y`: 1 if it does. Refuses with 1, 5, 12 and 10, in this order.
-pub fn flows(n: usize, table: &[u8], x: usize, y: usize) -> answers::Told
+pub fn flows(n: usize, table: &[u8], x: usize, y: usize) -> Told
     ensures { λ r. ⌜ Flows n (now (table .entry)) x y r ⌝ }
 {
     let refusal = both_asked_refusal(n, table, x, y);
     if refusal != 0 {
-        return answers::Told {
+        return Told {
             answer: refusal,
             value: 0,
         };
     }
     let byte = flow_byte(n, table, x, y);
-    answers::Told {
+    Told {
         answer: 0,
-        value: wide(byte),
+        value: answers::wide(byte),
     }
 }
 
@@ -187,7 +174,7 @@ fn fill_label(n: usize, table: &[u8], x: usize, label: &mut [u8]) -> usize
     while y < n {
         let byte = flow_byte(n, table, y, x);
         label[y] = byte;
-        size += wide(byte);
+        size += answers::wide(byte);
         y += 1;
     }
     size
@@ -195,18 +182,18 @@ fn fill_label(n: usize, table: &[u8], x: usize, label: &mut [u8]) -> usize
 
 // Writes the label of `x`: for each entity, 1 if it flows to `x`. Tells the label's size. Refuses with 1, 5, 12 and 10, in this
 // order, and then changes nothing.
-pub fn label(n: usize, table: &[u8], x: usize, label: &mut [u8]) -> answers::Told
+pub fn label(n: usize, table: &[u8], x: usize, label: &mut [u8]) -> Told
     ensures { λ r. ⌜ Labels n (now (table .entry)) x (now (label .entry)) (r, now (label .exit)) ⌝ }
 {
-    let refusal = asked_refusal(label.len() < LEAST_LABEL, n, table, x);
+    let refusal = asked_refusal(label.len() < sizes::LEAST_LABEL, n, table, x);
     if refusal != 0 {
-        return answers::Told {
+        return Told {
             answer: refusal,
             value: 0,
         };
     }
     let size = fill_label(n, table, x, label);
-    answers::Told {
+    Told {
         answer: 0,
         value: size,
     }
@@ -271,17 +258,17 @@ fn smallest_member(n: usize, table: &[u8], x: usize) -> usize
 }
 
 // The name of the class of `x`. Refuses with 1, 5, 12 and 10, in this order.
-pub fn class_name(n: usize, table: &[u8], x: usize) -> answers::Told
+pub fn class_name(n: usize, table: &[u8], x: usize) -> Told
     ensures { λ r. ⌜ Names n (now (table .entry)) x r ⌝ }
 {
     let refusal = asked_refusal(false, n, table, x);
     if refusal != 0 {
-        return answers::Told {
+        return Told {
             answer: refusal,
             value: 0,
         };
     }
-    answers::Told {
+    Told {
         answer: 0,
         value: smallest_member(n, table, x),
     }
@@ -341,17 +328,17 @@ fn flags(n: usize, table: &[u8], x: usize) -> usize
 }
 
 // The flags of `x`. Refuses with 1, 5, 12 and 10, in this order.
-pub fn greatest(n: usize, table: &[u8], x: usize) -> answers::Told
+pub fn greatest(n: usize, table: &[u8], x: usize) -> Told
     ensures { λ r. ⌜ Flags n (now (table .entry)) x r ⌝ }
 {
     let refusal = asked_refusal(false, n, table, x);
     if refusal != 0 {
-        return answers::Told {
+        return Told {
             answer: refusal,
             value: 0,
         };
     }
-    answers::Told {
+    Told {
         answer: 0,
         value: flags(n, table, x),
     }
@@ -414,7 +401,10 @@ fn fill_effects(n: usize, before: &[u8], after: &[u8], effect: &mut [u8])
 pub fn effect(n: usize, before: &[u8], after: &[u8], effect: &mut [u8]) -> u8
     ensures { λ r. ⌜ Affects n (now (before .entry)) (now (after .entry)) (now (effect .entry)) (r, now (effect .exit)) ⌝ }
 {
-    let short = answers::either(after.len() < LEAST_FLOW, effect.len() < LEAST_EFFECT);
+    let short = answers::either(
+        after.len() < sizes::LEAST_FLOW,
+        effect.len() < sizes::LEAST_EFFECT,
+    );
     let refusal = flow_refusal(short, n, before);
     if refusal != 0 {
         return refusal;
@@ -439,13 +429,13 @@ fn can_choose(before: &[u8], after: &[u8], n: usize, choice: usize, x: usize) ->
     if n <= x {
         return false;
     }
-    if MOST_ENTITIES < n {
+    if sizes::MOST_ENTITIES < n {
         return false;
     }
-    if before.len() < LEAST_FLOW {
+    if before.len() < sizes::LEAST_FLOW {
         return false;
     }
-    LEAST_FLOW <= after.len()
+    sizes::LEAST_FLOW <= after.len()
 }
 
 // The row of `x`, as a part of the table before a change for choice 0, and of the one after it for 1. For a bad choice, number,

@@ -1,4 +1,5 @@
 // The program: reads a sheet from standard input and writes what is to be said of it.
+use answers::sizes;
 use libc::STDIN_FILENO;
 use libc::STDOUT_FILENO;
 ghost use Prim.Native.Nat.{_+_, _≤_};
@@ -50,7 +51,7 @@ fn read_all(buffer: &mut [u8]) -> Input
 
 // Writes the whole output for a text to standard output.
 fn print(text: &[u8]) {
-    let mut out = [0u8; 1435];
+    let mut out = [0u8; report::LEAST_OUTPUT];
     let told = report::report(text, &mut out);
     let size = told.value;
     let is_written = io::write_all(STDOUT_FILENO, &out[..size]);
@@ -59,9 +60,11 @@ fn print(text: &[u8]) {
     }
 }
 
-// One byte more than the most that a text may have is read: more would change nothing, and endless input comes to an end.
+// One byte more than the most that a text may have: more would change nothing, and endless input comes to an end.
+const ROOM: usize = sizes::MOST_TEXT + 1;
+
 fn main() {
-    let mut text = [0u8; 44241];
+    let mut text = [0u8; ROOM];
     let input = read_all(&mut text);
     if input.failed {
         os::fail(b"standard input");

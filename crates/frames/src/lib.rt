@@ -1,11 +1,13 @@
 // The frames of a sheet's text.
+use answers::Counts;
+use answers::sizes;
 ghost use mathlib.Core.Path.{_≡_};
-ghost use mathlib.Core.Bool.{true, not, _||_};
+ghost use mathlib.Core.Bool.{true, not};
 ghost use Prim.Native.Nat.{_+_, _*_, _≤_, _<_};
 ghost use lib.Dec.{leb, eqb};
 ghost use lib.ListN.{length};
 ghost use Rattle.answers.specs.Call.{firstRefusal};
-ghost use Rattle.answers.specs.Sheet.{entities};
+ghost use Rattle.answers.specs.Sheet.{counts, entities};
 ghost use Rattle.digits.specs.Digit.{digitPairs, toBytes};
 ghost use Rattle.digits.specs.Line.{line as asLine};
 ghost use Rattle.frames.specs.Frame.{ofThree, ofFour, frameOf, parse, key};
@@ -32,7 +34,7 @@ pub enum Parsed {
 pub struct Passed {
     pub lines: usize,
     pub ended: bool,
-    pub counts: answers::Counts,
+    pub counts: Counts,
     pub last: usize,
     pub separations: usize,
 }
@@ -134,15 +136,6 @@ pub fn parse_at(text: &[u8], p: usize) -> Found
     }
 }
 
-fn either(a: bool, b: bool) -> bool
-    ensures { λ r. ⌜ r ≡ (a || b) ⌝ }
-{
-    if a {
-        return true;
-    }
-    b
-}
-
 fn is_misplaced(k: Passed, f: Frame) -> bool
     ensures { λ r. ⌜ r ≡ misplaced k f ⌝ }
 {
@@ -155,11 +148,22 @@ fn is_misplaced(k: Passed, f: Frame) -> bool
     }
 }
 
+// The counts of a header.
+fn header_counts(s: u8, o: u8, r: u8) -> Counts
+    ensures { λ c. ⌜ c ≡ counts s o r ⌝ }
+{
+    Counts {
+        subjects: s as usize,
+        objects: o as usize,
+        roles: r as usize,
+    }
+}
+
 fn is_oversized(f: Frame) -> bool
     ensures { λ r. ⌜ r ≡ oversized f ⌝ }
 {
     match f {
-        Frame::Header(s, o, r) => either(either(48 < s, 64 < o), 48 < r),
+        Frame::Header(s, o, r) => answers::counts_exceed(header_counts(s, o, r)),
         Frame::Assign(_, _) => false,
         Frame::Permit(_, _, _) => false,
         Frame::Separate(_, _) => false,
@@ -168,7 +172,7 @@ fn is_oversized(f: Frame) -> bool
 }
 
 // Whether x is no entity; the sum of both counts is not formed, so it cannot wrap.
-fn no_entity(c: answers::Counts, x: usize) -> bool
+fn no_entity(c: Counts, x: usize) -> bool
     ensures { λ r. ⌜ r ≡ leb (entities c) x ⌝ }
 {
     if x < c.subjects {
@@ -183,15 +187,15 @@ fn is_out_of_range(k: Passed, f: Frame) -> bool
     let c = k.counts;
     match f {
         Frame::Header(_, _, _) => false,
-        Frame::Assign(s, r) => either(c.subjects <= s as usize, c.roles <= r as usize),
+        Frame::Assign(s, r) => answers::either(c.subjects <= s as usize, c.roles <= r as usize),
         Frame::Permit(r, o, m) => {
-            let pair = either(c.roles <= r as usize, c.objects <= o as usize);
-            either(either(pair, m < 1), 3 < m)
+            let pair = answers::either(c.roles <= r as usize, c.objects <= o as usize);
+            answers::either(answers::either(pair, m < 1), 3 < m)
         }
         Frame::Separate(x, y) => {
             let from = no_entity(c, x as usize);
             let to = no_entity(c, y as usize);
-            either(from, to)
+            answers::either(from, to)
         }
         Frame::End(_, _) => false,
     }
@@ -204,7 +208,7 @@ fn is_too_many(k: Passed, f: Frame) -> bool
         Frame::Header(_, _, _) => false,
         Frame::Assign(_, _) => false,
         Frame::Permit(_, _, _) => false,
-        Frame::Separate(_, _) => 64 <= k.separations,
+        Frame::Separate(_, _) => sizes::MOST_SEPARATIONS <= k.separations,
         Frame::End(_, _) => false,
     }
 }
@@ -293,7 +297,7 @@ pub fn start_state() -> Passed
     Passed {
         lines: 0,
         ended: false,
-        counts: answers::Counts {
+        counts: Counts {
             subjects: 0,
             objects: 0,
             roles: 0,
@@ -313,11 +317,7 @@ pub fn state_after(k: Passed, f: Frame) -> Passed
     n.last = key_of(f);
     match f {
         Frame::Header(s, o, r) => {
-            let counts = answers::Counts {
-                subjects: s as usize,
-                objects: o as usize,
-                roles: r as usize,
-            };
+            let counts = header_counts(s, o, r);
             n.counts = counts;
         }
         Frame::Assign(_, _) => {}

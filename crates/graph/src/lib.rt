@@ -1,4 +1,5 @@
 // Closes a table of channels, whatever filled it: the flows of each entity, and the chain from one entity to another.
+use answers::sizes;
 ghost use mathlib.Core.Path.{_≡_};
 ghost use Prim.Native.Nat.{_+_, _*_, _≤_, _<_};
 ghost use lib.ListN.{length, getD, replicate};
@@ -90,7 +91,7 @@ pub fn fill_row(channels: &[u8], n: usize, x: usize, row: &mut [u8])
     requires { ⌜ (n ≤ mostEntities) × (n * n ≤ length (now channels)) × (x < n) × (length (now row) ≡ n) ⌝ }
     ensures { λ _. ⌜ FlowRow n (Bytes n (now (channels .entry))) x (now (row .exit)) ⌝ }
 {
-    let mut order = [0usize; 112];
+    let mut order = [0usize; sizes::MOST_ENTITIES];
     let reached = reach(channels, n, x, &mut order);
     clear(row);
     mark(n, &order, reached, row);
@@ -201,7 +202,7 @@ pub fn show_chain(channels: &[u8], n: usize, x: usize, y: usize, chain: &mut [u8
     requires { ⌜ (n ≤ mostEntities) × (n * n ≤ length (now channels)) × (x < n) × (y < n) × (n ≤ length (now chain)) ⌝ }
     ensures { λ r. ⌜ ShownChain (Bytes n (now (channels .entry))) x y (now (chain .entry)) (now (chain .exit)) r ⌝ }
 {
-    let mut dist = [FAR; 112];
+    let mut dist = [FAR; sizes::MOST_ENTITIES];
     measure(channels, n, y, &mut dist);
     if dist[x] == FAR {
         return 0;

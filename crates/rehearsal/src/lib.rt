@@ -1,6 +1,7 @@
 // The calls of a rehearsal, of flat bytes and of records, each with a tally that is lent.
 use answers::Counts;
 use answers::Told;
+use answers::sizes;
 use transfers::Progress;
 use transfers::Tallied;
 use transfers::Tally;
@@ -82,7 +83,7 @@ fn records_tallied(
 ) -> Tallied
     ensures { λ r. ⌜ RehearsesRecords (lent counts (now (assignment .entry)) (now (permission .entry))) (now (records .entry)) (now (marks .entry)) (now (verdicts .entry)) tally (rehearsedTo r (now (marks .exit)) (now (verdicts .exit))) ⌝ }
 {
-    let mut channels = [0u8; 12544];
+    let mut channels = [0u8; sizes::LEAST_FLOW];
     let begun = transfers::begin_records(
         counts,
         assignment,

@@ -1,6 +1,7 @@
 // The whole output of the program for a text.
 use answers::Counts;
 use answers::Told;
+use answers::sizes;
 ghost use mathlib.Core.List.{_∷_};
 ghost use Prim.Native.Nat.{_+_, _*_, _<_, _≤_};
 ghost use lib.ListN.{length, take};
@@ -15,7 +16,7 @@ ghost use Rattle.report.specs.Output.{EntityLine, EntityLines, VerdictLi
 ghost use Rattle.report.specs.Report.{leastOutput, Reports};
 ghost use Rattle.report.specs.Inner.{PutLine, PutOutput, Describable, Printable};
 
-const LEAST_OUTPUT: usize = 1435;
+pub const LEAST_OUTPUT: usize = 1435;
 
 const REFUSED: u8 = 0x80;
 
@@ -30,7 +31,7 @@ fn label_size(n: usize, table: &[u8], x: usize) -> usize
     requires { ⌜ Accepted n (now table) × (x < n) ⌝ }
     ensures { λ r. ⌜ LabelSize n (Bytes n (now (table .entry))) x r ⌝ }
 {
-    let mut label = [0u8; 112];
+    let mut label = [0u8; sizes::LEAST_LABEL];
     let told = flow::label(n, table, x, &mut label);
     told.value
 }
@@ -93,7 +94,7 @@ fn put_verdict(
     requires { ⌜ at + 203 ≤ length (now out) ⌝ }
     ensures { λ r. ⌜ PutLine (VerdictLine (Channel (sheetOf (lent counts (now (assignment .entry)) (now (permission .entry))) count (now (separations .entry)))) count (now (separations .entry))) at (now (out .entry)) r (now (out .exit)) ⌝ }
 {
-    let mut chain = [0u8; 112];
+    let mut chain = [0u8; sizes::LEAST_CHAIN];
     let judged = verdict::judge(
         counts,
         assignment,
@@ -125,7 +126,7 @@ fn put_sheet(
     ensures { λ r. ⌜ PutOutput (SheetLines (sheetOf (lent counts (now (assignment .entry)) (now (permission .entry))) count (now (separations .entry)))) (now (out .entry)) r (now (out .exit)) ⌝ }
 {
     let n = counts.subjects + counts.objects;
-    let mut table = [0u8; 12544];
+    let mut table = [0u8; sizes::LEAST_FLOW];
     flow::fill(counts, assignment, permission, &mut table);
     let end = put_entities(out, n, &table);
     put_verdict(counts, assignment, permission, count, separations, out, end)
@@ -151,9 +152,9 @@ pub fn report(text: &[u8], out: &mut [u8]) -> Told
             value: 0,
         };
     }
-    let mut assignment = [0u8; 2304];
-    let mut permission = [0u8; 3072];
-    let mut separations = [0u8; 128];
+    let mut assignment = [0u8; sizes::LEAST_ASSIGNMENT];
+    let mut permission = [0u8; sizes::LEAST_PERMISSION];
+    let mut separations = [0u8; sizes::LEAST_SEPARATIONS];
     let reading = sheet::read(text, &mut assignment, &mut permission, &mut separations);
     if reading.answer != 0 {
         let size = put_refusal(out, reading.answer, reading.line);

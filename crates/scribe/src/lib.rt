@@ -1,4 +1,5 @@
 // The text of a sheet, written from its tables.
+use answers::Counts;
 ghost use mathlib.Core.Path.{_≡_};
 ghost use mathlib.Core.List.{[], _∷_};
 ghost use Prim.Native.Nat.{_+_, _*_, _<_, _≤_};
@@ -137,7 +138,7 @@ fn put_separated(text: &mut [u8], start: Pen, count: usize, separations: &[u8]) 
 }
 
 // The header's line, the first of a text.
-fn put_header(text: &mut [u8], counts: answers::Counts) -> Pen
+fn put_header(text: &mut [u8], counts: Counts) -> Pen
     requires { ⌜ (counts .subjects < 256) × (counts .objects < 256) × (counts .roles < 256) × (9 ≤ length (now text)) ⌝ }
     ensures { λ r. ⌜ Puts (Header (counts .subjects) (counts .objects) (counts .roles) ∷ []) (penAt 0 0) (now (text .entry)) r (now (text .exit)) ⌝ }
 {
@@ -166,7 +167,7 @@ fn put_end(text: &mut [u8], pen: Pen) -> Pen
 
 // The one text of sound tables, at the start of the buffer; the answer is its length.
 pub fn write_tables(
-    counts: answers::Counts,
+    counts: Counts,
     assignment: &[u8],
     permission: &[u8],
     count: usize,

@@ -1,4 +1,7 @@
 // Reading and writing the text of a sheet.
+use answers::Counts;
+use answers::Told;
+use answers::sizes;
 ghost use mathlib.Core.Path.{_≡_};
 ghost use Rattle.answers.specs.Call.{told};
 ghost use Rattle.answers.specs.Sheet.{lent};
@@ -11,7 +14,7 @@ ghost use Rattle.sheet.specs.Inner.{refusedBy, acceptedWith, anyShort};
 pub struct Reading {
     pub answer: u8,
     pub line: usize,
-    pub counts: answers::Counts,
+    pub counts: Counts,
     pub separations: usize,
 }
 
@@ -21,7 +24,7 @@ fn refused_reading(answer: u8, line: usize) -> Reading
     Reading {
         answer,
         line,
-        counts: answers::Counts {
+        counts: Counts {
             subjects: 0,
             objects: 0,
             roles: 0,
@@ -46,13 +49,13 @@ fn accepted_reading(k: frames::Passed) -> Reading
 fn some_short(assignment: usize, permission: usize, separations: usize) -> bool
     ensures { λ r. ⌜ r ≡ anyShort assignment permission separations ⌝ }
 {
-    if assignment < 2304 {
+    if assignment < sizes::LEAST_ASSIGNMENT {
         return true;
     }
-    if permission < 3072 {
+    if permission < sizes::LEAST_PERMISSION {
         return true;
     }
-    separations < 128
+    separations < sizes::LEAST_SEPARATIONS
 }
 
 // Reads a sheet into the lent tables. The whole text is checked before a table is written, so a refusal changes none.
@@ -67,7 +70,7 @@ pub fn read(
     if some_short(assignment.len(), permission.len(), separations.len()) {
         return refused_reading(1, 0);
     }
-    if 44240 < text.len() {
+    if sizes::MOST_TEXT < text.len() {
         return refused_reading(5, 0);
     }
     let checked = frames::check_text(text);
@@ -84,30 +87,26 @@ pub fn read(
 
 // ---- writing, and the refused line
 
-const LEAST_SEPARATIONS: usize = 128;
-
-const LEAST_TEXT: usize = 44240;
-
-fn tell(answer: u8, value: usize) -> answers::Told
+fn tell(answer: u8, value: usize) -> Told
     ensures { λ r. ⌜ r ≡ told answer value ⌝ }
 {
-    answers::Told { answer, value }
+    Told { answer, value }
 }
 
 // Writes the one text of the sheet in the tables at the start of `text`: the answer, and the text's length.
 pub fn write(
-    counts: answers::Counts,
+    counts: Counts,
     assignment: &[u8],
     permission: &[u8],
     count: usize,
     separations: &[u8],
     text: &mut [u8],
-) -> answers::Told
+) -> Told
     ensures { λ r. ⌜ Writes (lent counts (now (assignment .entry)) (now (permission .entry))) count (now (separations .entry)) (now (text .entry)) (r, now (text .exit)) ⌝ }
 {
     let short = answers::either(
-        separations.len() < LEAST_SEPARATIONS,
-        text.len() < LEAST_TEXT,
+        separations.len() < sizes::LEAST_SEPARATIONS,
+        text.len() < sizes::LEAST_TEXT,
     );
     let shared = answers::sheet_refusal(short, false, counts, assignment, permission);
     if shared != 0 {

@@ -275,7 +275,7 @@ module _ (l : Lent) (ts : List Transfer) (marks verdicts : List ℕ) (t : Tally)
   pub records-outcome : (marks′ verdicts′ : List ℕ) (p : Progress) (r : Tallied) →
       RanTo l ts marks verdicts channels p₀ (p₀ .count) marks′ verdicts′ p → r ≡ finished p t →
       RehearsesRecords l ts marks verdicts t (rehearsedTo r marks′ verdicts′)
-  unfolding recordRefusals countedRefusals rehearsalShort
+  unfolding recordRefusals countedRefusals fewLent rehearsalShort
   records-outcome marks′ verdicts′ p r ran e = rw e (all-made ts marks verdicts clear started marks′ verdicts′ p ran)
 
 -- ---- of flat bytes

@@ -141,4 +141,4 @@ flatRefusals l bytes marks verdicts t =
 -- the refusals of a rehearsal of so many records, with so many marks and verdict bytes lent
 unfoldable pub countedRefusals : Lent → ℕ → ℕ → ℕ → Tally → List Refusal
 countedRefusals l records marks verdicts t =
-    sheetRefusals (ltb marks leastMarks || ltb verdicts leastVerdicts) (exceeds records mostTransfers) l then tallyRefusals t
+    sheetRefusals (fewLent marks verdicts) (exceeds records mostTransfers) l then tallyRefusals t

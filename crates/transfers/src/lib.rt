@@ -1,6 +1,7 @@
 // What transfers do to marks, and a rehearsal of them.
 use answers::Counts;
 use answers::Told;
+use answers::sizes;
 ghost use mathlib.Core.Path.{_≡_};
 ghost use mathlib.Core.Bool.{cond};
 ghost use Prim.Native.Nat.{_+_, _*_, _/_, _≤_, _<_};
@@ -65,13 +66,6 @@ const OUTSIDE: u8 = 10;
 
 const BARRED: u8 = 16;
 
-// A byte as a wider number.
-fn wide(x: u8) -> usize
-    ensures { λ r. ⌜ r ≡ x ⌝ }
-{
-    x as usize
-}
-
 // The move from a to b, if the table of n entities has the channel.
 fn try_move(channels: &[u8], n: usize, a: usize, b: usize) -> Act
     requires { ⌜ (n * n ≤ length (now channels)) × (n ≤ mostEntities) × (a < n) × (b < n) ⌝ }
@@ -88,8 +82,8 @@ fn come_to(channels: &[u8], c: Counts, subject: u8, object: u8, mode: u8) -> Act
     requires { ⌜ (c .subjects ≤ mostSubjects) × (c .objects ≤ mostObjects) × (entities c * entities c ≤ length (now channels)) ⌝ }
     ensures { λ r. ⌜ Comes c (Bytes (entities c) (now (channels .entry))) (transfer subject object mode) r ⌝ }
 {
-    let s = wide(subject);
-    let o = wide(object);
+    let s = answers::wide(subject);
+    let o = answers::wide(object);
     if c.subjects <= s {
         return Act::OutOfRange;
     }
@@ -212,14 +206,6 @@ pub fn step_record(
 
 const MOST_TALLIED: u32 = 4294963199;
 
-const MOST_TRANSFERS: usize = 4096;
-
-const MOST_TRANSFER_BYTES: usize = 12288;
-
-const LEAST_MARKS: usize = 112;
-
-const LEAST_VERDICTS: usize = 4096;
-
 // 17 of a tally, 0 for none.
 fn tally_refusal(tally: Tally) -> u8
     ensures { λ r. ⌜ r ≡ firstRefusal (tallyRefusals tally) ⌝ }
@@ -240,7 +226,7 @@ fn tally_refusal(tally: Tally) -> u8
 fn few_lent(marks: usize, verdicts: usize) -> bool
     ensures { λ r. ⌜ r ≡ fewLent marks verdicts ⌝ }
 {
-    answers::either(marks < LEAST_MARKS, verdicts < LEAST_VERDICTS)
+    answers::either(marks < sizes::LEAST_MARKS, verdicts < sizes::LEAST_VERDICTS)
 }
 
 // 1, 5, 11, 15 or 17 of a rehearsal, 0 for none. `short` says that marks or verdict bytes are too few, `long` that the list is over
@@ -316,7 +302,7 @@ fn begin(
     ensures { λ r. ⌜ Begun (lent counts (now (assignment .entry)) (now (permission .entry))) (flatRefusals (lent counts (now (assignment .entry)) (now (permission .entry))) bytes marks verdicts tally) (bytes / 3) (now (channels .entry)) (now (channels .exit)) r ⌝ }
 {
     let short = few_lent(marks, verdicts);
-    let long = bytes > MOST_TRANSFER_BYTES;
+    let long = bytes > sizes::MOST_TRANSFER_BYTES;
     let ragged = bytes % 3 != 0;
     start(
         short,
@@ -346,7 +332,7 @@ pub fn begin_records(
     ensures { λ r. ⌜ Begun (lent counts (now (assignment .entry)) (now (permission .entry))) (countedRefusals (lent counts (now (assignment .entry)) (now (permission .entry))) records marks verdicts tally) records (now (channels .entry)) (now (channels .exit)) r ⌝ }
 {
     let short = few_lent(marks, verdicts);
-    let long = records > MOST_TRANSFERS;
+    let long = records > sizes::MOST_TRANSFERS;
     start(
         short,
         long,
@@ -438,7 +424,7 @@ pub fn rehearse_tallied(
 ) -> Tallied
     ensures { λ r. ⌜ RehearsesFlat (lent counts (now (assignment .entry)) (now (permission .entry))) (now (transfers .entry)) (now (marks .entry)) (now (verdicts .entry)) tally (rehearsedTo r (now (marks .exit)) (now (verdicts .exit))) ⌝ }
 {
-    let mut channels = [0u8; 12544];
+    let mut channels = [0u8; sizes::LEAST_FLOW];
     let begun = begin(
         counts,
         assignment,

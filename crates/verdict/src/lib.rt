@@ -1,6 +1,7 @@
 // The shown chain, and the first broken separation.
 use answers::Counts;
 use answers::Told;
+use answers::sizes;
 ghost use mathlib.Core.Path.{_≡_};
 ghost use Prim.Native.Nat.{_*_, _≤_, _<_};
 ghost use lib.ListN.{length, getD};
@@ -14,10 +15,6 @@ ghost use Rattle.access.specs.Channel.{Channel};
 ghost use Rattle.verdict.specs.Shown.{chainRefusals, Shows};
 ghost use Rattle.verdict.specs.Judge.{Broken, Verdict, judgeRefusals, Judges};
 ghost use Rattle.verdict.specs.Inner.{Showable, HeldRow, Searchable, Judgeable};
-
-const LEAST_CHAIN: usize = 112;
-
-const LEAST_SEPARATIONS: usize = 128;
 
 // What judging answers: the number, and the position and the chain count of the first broken separation.
 pub struct Judged {
@@ -38,7 +35,7 @@ fn chain_refusal(
     ensures { λ r. ⌜ r ≡ firstRefusal (chainRefusals (lent c (now (assignment .entry)) (now (permission .entry))) x y (now (chain .entry))) ⌝ }
 {
     let refusal = answers::sheet_refusal(
-        chain.len() < LEAST_CHAIN,
+        chain.len() < sizes::LEAST_CHAIN,
         false,
         c,
         assignment,
@@ -70,7 +67,7 @@ fn show(
     ensures { λ r. ⌜ ShownChain (Channel (sheetIn (lent c (now (assignment .entry)) (now (permission .entry))))) x y (now (chain .entry)) (now (chain .exit)) r ⌝ }
 {
     let n = c.subjects + c.objects;
-    let mut channels = [0u8; 12544];
+    let mut channels = [0u8; sizes::LEAST_FLOW];
     access::fill_channels(c, assignment, permission, &mut channels);
     graph::show_chain(&channels, n, x, y, chain)
 }
@@ -121,8 +118,8 @@ fn judge_refusal(
     ensures { λ r. ⌜ r ≡ firstRefusal (judgeRefusals (lent c (now (assignment .entry)) (now (permission .entry))) count (now (separations .entry)) (now (chain .entry))) ⌝ }
 {
     let short = answers::either(
-        separations.len() < LEAST_SEPARATIONS,
-        chain.len() < LEAST_CHAIN,
+        separations.len() < sizes::LEAST_SEPARATIONS,
+        chain.len() < sizes::LEAST_CHAIN,
     );
     let refusal = answers::sheet_refusal(short, false, c, assignment, permission);
     if refusal != 0 {
@@ -189,7 +186,7 @@ fn judge_channels(
     requires { ⌜ Searchable n (now channels) count (now separations) × (n ≤ length (now chain)) ⌝ }
     ensures { λ r. ⌜ Verdict (Bytes n (now (channels .entry))) count (now (separations .entry)) (now (chain .entry)) (r, now (chain .exit)) ⌝ }
 {
-    let mut row = [0u8; 112];
+    let mut row = [0u8; sizes::MOST_ENTITIES];
     let first = first_broken(channels, n, count, separations, &mut row[..n]);
     if first == count {
         return Judged {
@@ -221,7 +218,7 @@ fn judge_sheet(
     ensures { λ r. ⌜ Verdict (Channel (sheetOf (lent c (now (assignment .entry)) (now (permission .entry))) count (now (separations .entry)))) count (now (separations .entry)) (now (chain .entry)) (r, now (chain .exit)) ⌝ }
 {
     let n = c.subjects + c.objects;
-    let mut channels = [0u8; 12544];
+    let mut channels = [0u8; sizes::LEAST_FLOW];
     access::fill_channels(c, assignment, permission, &mut channels);
     judge_channels(&channels, n, count, separations, chain)
 }

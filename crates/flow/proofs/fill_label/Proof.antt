@@ -30,7 +30,7 @@ wide-requires : tie.Need-wide-requires Inv-loop μ-loop
 wide-requires c κs = search needs
 
 add-size : tie.Need-add-size Inv-loop μ-loop
-add-size c = omega (arith, label-few _ _ _ _ _ _ _ (c .before .before .before .loop .inv .2), c .wide .ensures, mark-bit (c .before .flow-byte .ensures))
+add-size c = omega (arith, label-few _ _ _ _ _ _ _ (c .before .before .before .loop .inv .2), c .wide .ensures .0, mark-bit (c .before .flow-byte .ensures))
 
 add-y : tie.Need-add-y Inv-loop μ-loop
 add-y c = omega arith
@@ -39,7 +39,7 @@ loop-less : tie.Need-loop-less Inv-loop μ-loop
 loop-less c = omega arith
 
 loop-again : tie.Need-loop-again Inv-loop μ-loop
-loop-again c = (omega arith, search needs, label-more _ _ _ _ _ _ _ _ _ (omega arith) (c .before .flow-byte .ensures) (c .wide .ensures) (c .before .before .before .loop .inv .2))
+loop-again c = (omega arith, search needs, label-more _ _ _ _ _ _ _ _ _ (omega arith) (c .before .flow-byte .ensures) (c .wide .ensures .0) (c .before .before .before .loop .inv .2))
 
 same-length : tie.Need-same-length Inv-loop μ-loop
 same-length c = search needs

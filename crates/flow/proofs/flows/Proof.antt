@@ -21,7 +21,7 @@ wide-requires c κs = search needs
 returns-2 : tie.Need-returns-2
 returns-2 c =
     accept (sym (c .before .before .before .both-asked-refusal .ensures) ∙ c .before .before .if1 .left)
-    (record { answer = refl; right = rw (c .wide .ensures) (c .before .flow-byte .ensures) })
+    (record { answer = refl; right = rw (c .wide .ensures .0) (c .before .flow-byte .ensures) })
 
 pub flows-spec : {M : Type 1} → statement M
 flows-spec = tie.close (tie.spec both-asked-refusal-requires returns flow-byte-requires wide-requires returns-2)

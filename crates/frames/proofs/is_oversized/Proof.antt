@@ -1,6 +1,5 @@
 -- `frames::is_oversized` meets its contract. Assumes nothing.
 use borrow.Author.Needs.{needs}
-use mathlib.Core.Path.{ap}
 use Rattle.frames.specs.Check.{oversized}
 use Rattle.frames.proofs.is_oversized.Statement.{statement}
 use Rattle.frames.proofs.is_oversized.Tie as tie
@@ -8,11 +7,11 @@ use Rattle.frames.proofs.is_oversized.Tie as tie
 enum-known-f : tie.Need-enum-known-f
 enum-known-f c = search needs
 
-either-requires : tie.Need-either-requires
-either-requires c κs = search needs
+header-counts-requires : tie.Need-header-counts-requires
+header-counts-requires c κs = search needs
 
-either-requires-2 : tie.Need-either-requires-2
-either-requires-2 c κs = search needs
+counts-exceed-requires : tie.Need-counts-exceed-requires
+counts-exceed-requires c κs = search needs
 
 enum-told : tie.Need-enum-told
 enum-told c = search needs
@@ -28,7 +27,7 @@ enum-told-4 c = search needs
 
 returns : tie.Need-returns
 unfolding oversized
-returns c = cc (ap oversized (c .before .before .before .f .given .1))
+returns c = rw (c .counts-exceed .ensures, c .before .header-counts .ensures, c .before .before .before .f .given .1)
 
 returns-2 : tie.Need-returns-2
 unfolding oversized
@@ -51,8 +50,8 @@ is-oversized-spec =
     tie.close
     (tie.spec
     enum-known-f
-    either-requires
-    either-requires-2
+    header-counts-requires
+    counts-exceed-requires
     enum-told
     enum-told-2
     enum-told-3

@@ -13,14 +13,8 @@ key-of-requires c κs = search needs
 enum-known-f : tie.Need-enum-known-f
 enum-known-f c = search needs
 
-cast-t8 : tie.Need-cast-t8
-cast-t8 c = search needs
-
-cast-t9 : tie.Need-cast-t9
-cast-t9 c = search needs
-
-cast-t10 : tie.Need-cast-t10
-cast-t10 c = search needs
+header-counts-requires : tie.Need-header-counts-requires
+header-counts-requires c κs = search needs
 
 enum-told : tie.Need-enum-told
 enum-told c = search needs
@@ -39,7 +33,7 @@ enum-told-4 c = search needs
 
 returns : tie.Need-returns
 unfolding next
-returns c = rw (c .before .before .before .key-of .ensures, c .before .f .given .1)
+returns c = rw (c .header-counts .ensures, c .before .before .before .before .key-of .ensures, c .before .before .f .given .1)
 
 returns-2 : tie.Need-returns-2
 unfolding next
@@ -64,9 +58,7 @@ state-after-spec =
     add-n
     key-of-requires
     enum-known-f
-    cast-t8
-    cast-t9
-    cast-t10
+    header-counts-requires
     enum-told
     enum-told-2
     enum-told-3

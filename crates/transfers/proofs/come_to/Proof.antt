@@ -30,7 +30,7 @@ try-move-requires c κs = search needs
 returns-3 : tie.Need-returns-3
 returns-3 c =
     let w = c .before .before .before .before .before .before .before in
-    way-comes (toSubject (omega arith) (omega arith) (omega arith)) (rw (w .before .before .wide .ensures, w .before .wide2 .ensures) at (c .try-move .ensures))
+    way-comes (toSubject (omega arith) (omega arith) (omega arith)) (rw (w .before .before .wide .ensures .0, w .before .wide2 .ensures .0) at (c .try-move .ensures))
 
 try-move-requires-2 : tie.Need-try-move-requires-2
 try-move-requires-2 c κs = search needs
@@ -39,7 +39,7 @@ returns-4 : tie.Need-returns-4
 returns-4 c =
     let w = c .before .before .before .before .before .before .before .before in
     way-comes (toObject (omega arith) (omega arith) (omega arith))
-    (rw (w .before .before .wide .ensures, w .before .wide2 .ensures) at (c .try-move2 .ensures))
+    (rw (w .before .before .wide .ensures .0, w .before .wide2 .ensures .0) at (c .try-move2 .ensures))
 
 returns-5 : tie.Need-returns-5
 returns-5 c = outside-mode (λ e. omega arith) (λ e. omega arith)
