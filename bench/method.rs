@@ -9,7 +9,7 @@ fn has(mode: u8, wanted: u8) -> bool {
 }
 
 fn some_above(bytes: &[u8], most: u8) -> bool {
-    bytes.iter().any(|&b| b > most)
+    bytes.iter().fold(false, |some, &b| some | (b > most))
 }
 
 pub struct Counts {

@@ -32,6 +32,14 @@ module _ (test : ℕ → Bool) where
       last : test n ≡ true → (anyBelow n test || test n) ≡ true
       last e = rw (e, or-true)
 
+  -- for a loop that goes on to the end: what it has found so far
+  pub so-far : (i : ℕ) (some : Bool) → some ≡ anyBelow i test → (some || test i) ≡ anyBelow (i + 1) test
+  unfolding anyBelow
+  so-far i some e = rw (add-one, e)
+
+  pub to-the-end : (n i : ℕ) (some : Bool) → i ≤ n → n ≤ i → some ≡ anyBelow i test → some ≡ anyBelow n test
+  to-the-end n i some l m e = rw (le-antisymm l m) at e
+
   pub held-by : (n : ℕ) → anyBelow n test ≡ true → (k : ℕ) × (k < n) × (test k ≡ true)
   unfolding anyBelow
   held-by zero e = absurd (false≢true e)

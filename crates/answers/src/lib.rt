@@ -35,19 +35,18 @@ pub fn either(a: bool, b: bool) -> bool
     a || b
 }
 
-// Whether one of the first `used` bytes is above `most`.
+// Whether one of the first `used` bytes is above `most`. It does not stop at the first, so that many bytes are judged at once.
 pub fn some_above(bytes: &[u8], used: usize, most: u8) -> bool
     requires { ⌜ used ≤ length (now bytes) ⌝ }
     ensures { λ r. ⌜ r ≡ someAbove (now (bytes .entry)) used most ⌝ }
 {
+    let mut some = false;
     let mut i = 0;
     while i < used {
-        if bytes[i] > most {
-            return true;
-        }
+        some = either(some, bytes[i] > most);
         i += 1;
     }
-    false
+    some
 }
 
 // Whether a count is over its size.

@@ -1,28 +1,26 @@
--- `answers::some_above` meets its contract: no byte passed is above `most`.
+-- `answers::some_above` meets its contract: so far it says whether a byte that it passed is above `most`.
 use Prim.Native.Nat.{_≤_, _-_}
-use mathlib.Core.Path.{_≡_, sym}
-use mathlib.Core.Bool.{false}
+use mathlib.Core.Path.{_≡_, sym, _∙_}
 use borrow.Author.Needs.{needs}
-use borrow.Author.Tests.{lt-ltb, le-ltb}
 use Rattle.answers.specs.Rows.{someAbove}
-use Rattle.answers.proofs.Below.{none-yet, none-more, none, found}
+use Rattle.answers.proofs.Below.{none-yet, so-far, to-the-end}
 use Rattle.answers.proofs.some_above.Statement.{statement}
 use Rattle.answers.proofs.some_above.Tie as tie
 
 abbrev Inv-loop : tie.InvT-loop
-Inv-loop bytes used most i₀ i = (i ≤ used) × (someAbove bytes i most ≡ false)
+Inv-loop bytes used most some₀ i₀ some i = (i ≤ used) × (some ≡ someAbove bytes i most)
 
 abbrev μ-loop : tie.MeasureT-loop
-μ-loop bytes used most i₀ i = used - i
+μ-loop bytes used most some₀ i₀ some i = used - i
 
 loop-holds : tie.Need-loop-holds Inv-loop μ-loop
-loop-holds c = (search needs, none-yet _)
+loop-holds c = (search needs, sym (none-yet _))
 
-shared-slice-read-if1 : tie.Need-shared-slice-read-if1 Inv-loop μ-loop
-shared-slice-read-if1 c = search needs
+shared-slice-read-either : tie.Need-shared-slice-read-either Inv-loop μ-loop
+shared-slice-read-either c = search needs
 
-returns : tie.Need-returns Inv-loop μ-loop
-returns c = sym (found _ _ _ (c .before .before .loop-test .taken) (lt-ltb _ _ (c .if1 .taken)))
+either-requires : tie.Need-either-requires Inv-loop μ-loop
+either-requires c κs = search needs
 
 add-i : tie.Need-add-i Inv-loop μ-loop
 add-i c = search needs
@@ -31,11 +29,11 @@ loop-less : tie.Need-loop-less Inv-loop μ-loop
 loop-less c = search needs
 
 loop-again : tie.Need-loop-again Inv-loop μ-loop
-loop-again c = (search needs, none-more _ _ (c .before .before .before .loop .inv .1) (le-ltb _ _ (c .if1 .left)))
+loop-again c = (search needs, c .either .ensures ∙ so-far _ _ _ (c .before .before .before .loop .inv .1))
 
-returns-2 : tie.Need-returns-2 Inv-loop μ-loop
-returns-2 c = sym (none _ _ _ (c .before .loop .inv .0) (c .loop-test .left) (c .before .loop .inv .1))
+returns : tie.Need-returns Inv-loop μ-loop
+returns c = to-the-end _ _ _ _ (c .before .loop .inv .0) (c .loop-test .left) (c .before .loop .inv .1)
 
 pub some-above-spec : {M : Type 1} → statement M
 some-above-spec =
-    tie.close (tie.spec Inv-loop μ-loop loop-holds shared-slice-read-if1 returns add-i loop-less loop-again returns-2)
+    tie.close (tie.spec Inv-loop μ-loop loop-holds shared-slice-read-either either-requires add-i loop-less loop-again returns)
