@@ -11,3 +11,9 @@ pub record Part (s : RefT (List ℕ)) (a e : ℕ) (r : RefT (List ℕ)) : Type 0
   pub bytes : now r ≡ take (e - a) (drop a (now s))
   pub block : ptr r .0 ≡ ptr s .0
   pub place : ptr r .1 ≡ a + ptr s .1
+
+-- "no second answer": two parts have the same bytes at the same place. What is left open is a ghost name, which no code can see.
+pub record SamePart (r r′ : RefT (List ℕ)) : Type 0 where
+  pub bytes : now r ≡ now r′
+  pub block : ptr r .0 ≡ ptr r′ .0
+  pub place : ptr r .1 ≡ ptr r′ .1

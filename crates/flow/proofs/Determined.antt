@@ -9,10 +9,10 @@ use Rattle.answers.specs.declared.Told.{Told}
 use Rattle.answers.specs.Call.{told}
 use Rattle.answers.specs.Rows.{Bytes, over, count}
 use Rattle.answers.specs.Sheet.{Lent}
-use Rattle.answers.specs.Part.{Part}
+use Rattle.answers.specs.Part.{Part, SamePart}
 use Rattle.answers.proofs.Calls.{determined}
 use Rattle.answers.proofs.Marks.{one-mark, one-row, one-marked}
-use Rattle.answers.proofs.Parts.{one-part, SamePart}
+use Rattle.answers.proofs.Parts.{one-part}
 use Rattle.theory.specs.Order.{Order, equal, below, above, incomparable}
 use Rattle.theory.proofs.Orders.{one-label, one-class, one-greatest, one-order}
 use Rattle.theory.proofs.Effects.{one-effect}

@@ -13,7 +13,7 @@ use Rattle.theory.specs.Flow.{here}
 use Rattle.theory.proofs.Flows.{flow-closed}
 use Rattle.access.specs.Channel.{Channel, reads, writes}
 use Rattle.theory.specs.Order.{below, Compares, only-there}
-use Rattle.theory.proofs.Orders.{EqualAnswers}
+use Rattle.theory.specs.Laws.{EqualAnswers}
 use Rattle.flow.specs.Table.{byteRefusals, flowRefusals, entityRefusals, pairAskedRefusals}
 use Rattle.flow.specs.Fill.{SheetFlow, FlowFilled}
 use Rattle.flow.specs.Questions.{askedRefusals, bothAskedRefusals}

@@ -9,10 +9,11 @@ use Rattle.answers.specs.Sheet.{Sheet, entities}
 use Rattle.answers.proofs.Marks.{mark-of, marked-yes}
 use Rattle.answers.proofs.Products.{place-below}
 use Rattle.theory.specs.Flow.{Flow, here}
-use Rattle.theory.specs.Order.{Included, Equivalent, ClassName}
+use Rattle.theory.specs.Order.{Included, ClassName}
 use Rattle.theory.specs.Effect.{Effect}
+use Rattle.theory.specs.Laws.{Agree, EqualAnswers, OneClass}
 use Rattle.theory.proofs.Flows.{flow-reflexive, flow-transitive}
-use Rattle.theory.proofs.Orders.{Agree, EqualAnswers, agree-turned, equal-answers, label-of-flow, class-named-once, named-class}
+use Rattle.theory.proofs.Orders.{agree-turned, equal-answers, label-of-flow, class-named-once, named-class}
 use Rattle.theory.proofs.Effects.{effect-agrees}
 use Rattle.flow.specs.Fill.{SheetFlow, FlowFilled}
 
@@ -52,11 +53,7 @@ module _ (t : Sheet) (before after : List ℕ) (f : FlowFilled t before after) (
   pub byte-of-label : Included (entities (t .counts)) (Bytes (entities (t .counts)) after) x y → Bytes (entities (t .counts)) after x y
   byte-of-label i = i x hx (agree .there x x hx hx here)
 
--- The equivalence classes of a filled table partition the entities: two have one class name exactly if each flows to the other.
-pub record OneClass (n : ℕ) (R : ℕ → ℕ → Type 0) (x y a b : ℕ) : Type 0 where
-  pub one-name : Equivalent R x y → ClassName n R x a → ClassName n R y b → a ≡ b
-  pub one-class : a ≡ b → ClassName n R x a → ClassName n R y b → Equivalent R x y
-
+-- The classes of a filled table partition the entities.
 pub classes-partition : (t : Sheet) (before after : List ℕ) → FlowFilled t before after → (x y a b : ℕ) → x < entities (t .counts) → y < entities (t .counts) →
     OneClass (entities (t .counts)) (Bytes (entities (t .counts)) after) x y a b
 classes-partition t before after f x y a b hx hy =

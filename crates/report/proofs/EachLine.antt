@@ -6,7 +6,8 @@ use native.Mathlib.Nat.{le-antisymm}
 use native.Mathlib.Numerals.{add-one}
 use native.Mathlib.Omega.{arith}
 use lib.ListN.{length, length-append}
-use Rattle.theory.proofs.Orders.{Agree, equal-answers}
+use Rattle.theory.specs.Laws.{Agree}
+use Rattle.theory.proofs.Orders.{equal-answers}
 use Rattle.digits.specs.Line.{lineOf}
 use Rattle.digits.proofs.Puts.{put-none, put-then, put-long, line-long}
 use Rattle.report.specs.Output.{EntityLine, EntityLines, none, next}

@@ -23,9 +23,10 @@ use Rattle.text.specs.Reading.{Read, refused, accepted, readText}
 use Rattle.text.proofs.RoundTrip.{accepted-sound}
 use Rattle.text.proofs.RefusedLines.{refused-line-fits}
 use Rattle.sheet.specs.Read.{ReadResult, readResult, Reads}
+use Rattle.sheet.specs.RoundTrip.{tablesIn, sheetRead}
 use Rattle.reader.specs.Fill.{Long}
 use Rattle.sheet.proofs.ReadDone.{lengths-pass, ReadDone}
-use Rattle.sheet.proofs.Calls.{tablesIn, sheetRead, sheet-back}
+use Rattle.sheet.proofs.Calls.{sheet-back}
 use Rattle.access.specs.Channel.{Channel}
 use Rattle.access.proofs.Filling.{entities-fit}
 use Rattle.flow.specs.Fill.{fillRefusals, FlowFilled, Fills}

@@ -16,8 +16,8 @@ use Rattle.answers.proofs.Accepted.{sheet-numbered, tables-pass, separations-pa
 use Rattle.access.specs.Channel.{Channel}
 use Rattle.sheet.proofs.Calls.{used-part}
 use Rattle.verdict.specs.declared.Judged.{Judged}
-use Rattle.verdict.specs.Judge.{FirstBroken, Verdict, hold as holds, broken as breaks, judgeRefusals, Judges}
-use Rattle.verdict.proofs.Findings.{Finding, finding, holding}
+use Rattle.verdict.specs.Judge.{FirstBroken, Verdict, hold as holds, broken as breaks, judgeRefusals, Judges, Finding}
+use Rattle.verdict.proofs.Findings.{finding, holding}
 use Rattle.verdict.proofs.Longest.{at-most-97}
 use Rattle.report.specs.Output.{VerdictLine, hold, broken}
 use Rattle.report.specs.Inner.{Printable}

@@ -12,10 +12,11 @@ use Rattle.answers.specs.declared.Told.{Told}
 use Rattle.answers.specs.Call.{firstRefusal, told}
 use Rattle.answers.specs.Rows.{over}
 use Rattle.answers.specs.Sizes.{leastSeparations, leastText}
-use Rattle.answers.specs.Sheet.{Sheet, Sound, Lent, lent, sheetOf}
+use Rattle.answers.specs.Sheet.{Sheet, Sound, Lent, sheetOf}
 use Rattle.text.specs.Content.{writeSheet}
 use Rattle.sheet.specs.Read.{ReadResult, tablesRead, Reads}
 use Rattle.sheet.specs.Write.{Writes, writeRefusals}
+use Rattle.sheet.specs.RoundTrip.{tablesIn, sheetRead, WritesRead}
 use Rattle.text.proofs.RoundTrip.{accepted-sound, read-write, write-read}
 use Rattle.sheet.proofs.Accepts.{refuses-none, refused-none}
 use Rattle.reader.specs.Fill.{Long}
@@ -31,17 +32,6 @@ unfolding over
 no-shorter used buffer = omega (arith, length-append used (drop (length used) buffer), length-drop (length used) buffer)
 
 -- ---- from reading to writing
--- the tables and the sheet in the buffers that reading has filled
-abbrev pub tablesIn : ReadResult → Lent
-tablesIn result = lent (result .reading .counts) (result .assignment) (result .permission)
-
-abbrev pub sheetRead : ReadResult → Sheet
-sheetRead result = sheetOf (tablesIn result) (result .reading .separations) (result .separations)
-
--- writing what was read
-abbrev pub WritesRead : ReadResult → List ℕ → Told × List ℕ → Type 0
-WritesRead result = Writes (tablesIn result) (result .reading .separations) (result .separations)
-
 module _ (assignment permission separations : List ℕ) (t : Sheet) (p : Sound t) where
   abbrev pub filled : ReadResult
   filled = tablesRead assignment permission separations t

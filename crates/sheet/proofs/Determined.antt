@@ -5,8 +5,9 @@ use mathlib.Core.List.{List}
 use denote.Ref.{RefT}
 use Rattle.answers.specs.declared.Told.{Told}
 use Rattle.answers.specs.Sheet.{Lent}
+use Rattle.answers.specs.Part.{SamePart}
 use Rattle.answers.proofs.Calls.{determined}
-use Rattle.answers.proofs.Parts.{SamePart, one-part}
+use Rattle.answers.proofs.Parts.{one-part}
 use Rattle.sheet.specs.Read.{ReadResult, Reads}
 use Rattle.sheet.specs.Write.{Writes}
 use Rattle.sheet.specs.RefusedLine.{RefusedLine}

@@ -12,11 +12,12 @@ use Rattle.answers.specs.Sheet.{counts}
 use Rattle.answers.proofs.Calls.{accept}
 use Rattle.text.specs.Content.{writeSheet}
 use Rattle.sheet.specs.Read.{ReadResult, tablesRead, readResult, Reads}
+use Rattle.sheet.specs.RoundTrip.{sheetRead, WritesRead}
 use Rattle.text.proofs.Worked.{reading, workedText, worked}
 use Rattle.text.proofs.RoundTrip.{worked-sound}
 use Rattle.reader.specs.Fill.{Long}
 use Rattle.sheet.proofs.ReadDone.{lengths-pass}
-use Rattle.sheet.proofs.Calls.{used-part, sheetRead, WritesRead, none-refused, read-then-write, write-then-read}
+use Rattle.sheet.proofs.Calls.{used-part, none-refused, read-then-write, write-then-read}
 
 assignment : List ℕ
 assignment = replicate leastAssignment 0

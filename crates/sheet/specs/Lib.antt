@@ -2,4 +2,5 @@
 pub mod Read
 pub mod Write
 pub mod RefusedLine
+pub mod RoundTrip
 pub mod Inner

@@ -8,8 +8,9 @@ use Rattle.answers.specs.Rows.{Mark, one, none}
 use Rattle.answers.proofs.Marks.{one-mark, mark-agrees}
 use Rattle.theory.specs.Flow.{Flow, here, step}
 use Rattle.theory.specs.Effect.{Gained, Lost, Effect}
+use Rattle.theory.specs.Laws.{Agree}
 use Rattle.theory.proofs.Flows.{Has, flow-more, flow-then}
-use Rattle.theory.proofs.Orders.{Agree, agree-turned}
+use Rattle.theory.proofs.Orders.{agree-turned}
 
 pub one-effect : {n : ℕ} {R R′ : ℕ → ℕ → Type 0} {x a b : ℕ} → Effect n R R′ x a → Effect n R R′ x b → a ≡ b
 one-effect p q = p .summed ∙ rw (one-mark (p .gained) (q .gained), one-mark (p .lost) (q .lost)) (sym (q .summed))

@@ -28,6 +28,7 @@ use Rattle.theory.specs.Order.{
   GreatestIntegrity,
   Greatest,
 }
+use Rattle.theory.specs.Laws.{Theorem1, Agree, EqualAnswers}
 use Rattle.theory.proofs.Flows.{Reflexive, Transitive, flow-reflexive, flow-transitive, flow-closed, flow-closed-back}
 
 -- ---- any reflexive and transitive relation
@@ -82,12 +83,6 @@ module _ {R : ℕ → ℕ → Type 0} (same : Reflexive R) (through : Transitive
   named-class p q = equivalent-then (p .member) (equivalent-turned (q .member))
 
 -- ---- theorem 1 of document 000, for any channel relation
--- x flows to y; x's class is below or equal to y's; x's label is included in y's
-pub record Theorem1 (n : ℕ) (ch : ℕ → ℕ → Type 0) (x y : ℕ) : Type 0 where
-  pub to-class : Flow ch x y → ClassBelow n (Flow ch) x y
-  pub to-label : ClassBelow n (Flow ch) x y → Included n (Flow ch) x y
-  pub to-flow : Included n (Flow ch) x y → Flow ch x y
-
 pub theorem-1 : (n : ℕ) (ch : ℕ → ℕ → Type 0) (x y : ℕ) → x < n → y < n → Theorem1 n ch x y
 theorem-1 n ch x y hx hy = record {
   to-class = class-of-flow flow-reflexive flow-transitive hx hy;
@@ -147,19 +142,8 @@ isolated {n} {ch} {x} out into =
     }
 
 -- ---- relations that agree on the entities below n give equal answers
-pub record Agree (n : ℕ) (R R′ : ℕ → ℕ → Type 0) : Type 0 where
-  pub there : (x y : ℕ) → x < n → y < n → R x y → R′ x y
-  pub back : (x y : ℕ) → x < n → y < n → R′ x y → R x y
-
 pub agree-turned : {n : ℕ} {R R′ : ℕ → ℕ → Type 0} → Agree n R R′ → Agree n R′ R
 agree-turned g = record { there = g .back; back = g .there }
-
-pub record EqualAnswers (n : ℕ) (R R′ : ℕ → ℕ → Type 0) (x y : ℕ) : Type 0 where
-  pub label : (row : List ℕ) → Label n R x row → Label n R′ x row
-  pub size : (k : ℕ) → LabelSize n R x k → LabelSize n R′ x k
-  pub class : (a : ℕ) → ClassName n R x a → ClassName n R′ x a
-  pub order : (o : Order) → Compares R x y o → Compares R′ x y o
-  pub greatest : (f : ℕ) → Greatest n R x f → Greatest n R′ x f
 
 module _ {n : ℕ} {R R′ : ℕ → ℕ → Type 0} (g : Agree n R R′) {x : ℕ} (hx : x < n) where
   label-agrees : (row : List ℕ) → Label n R x row → Label n R′ x row

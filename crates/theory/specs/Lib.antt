@@ -3,3 +3,4 @@ pub mod Flow
 pub mod Chain
 pub mod Order
 pub mod Effect
+pub mod Laws

@@ -17,13 +17,9 @@ use Rattle.answers.proofs.Accepted.{sheet-numbered, tables-passed}
 use Rattle.transfers.specs.declared.Transfer.{Transfer}
 use Rattle.transfers.specs.declared.Tally.{Tally}
 use Rattle.transfers.specs.Rehearse.{tallyRefusals, rehearsalShort, rehearseRefusals, recordRefusals}
-use Rattle.transfers.proofs.TwoRuns.{TwoLendings}
-use Rattle.transfers.proofs.FlatBytes.{flatBytes, flat-length}
-
--- a sound sheet, buffers that are long enough and a tally that has room
-pub record Ready (l : Lent) (marks verdicts : List ℕ) (t : Tally) : Type 0 where
-  pub sheet : firstRefusal (sheetRefusals (rehearsalShort marks verdicts) false l) ≡ 0
-  pub tally : firstRefusal (tallyRefusals t) ≡ 0
+use Rattle.transfers.specs.Transfers.{flatBytes}
+use Rattle.transfers.specs.Demand3.{TwoLendings, Ready}
+use Rattle.transfers.proofs.FlatBytes.{flat-length}
 
 -- few entities, and a mark for each
 pub record Room (l : Lent) (marks : List ℕ) : Type 0 where

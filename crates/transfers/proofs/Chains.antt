@@ -14,9 +14,9 @@ use Rattle.theory.proofs.Chains.{chain-long}
 use Rattle.access.proofs.Channels.{TwoSided}
 use Rattle.transfers.specs.declared.Transfer.{Transfer}
 use Rattle.transfers.specs.Acts.{verdict, verdictBytes}
-use Rattle.transfers.specs.Transfers.{transfer, Way, toSubject, toObject, moves, AllCome, none, next}
+use Rattle.transfers.specs.Transfers.{transfer, Way, toSubject, toObject, moves, AllCome, none, next, flatBytes}
 use Rattle.transfers.specs.Demand3.{transferOf, chainTransfers}
-use Rattle.transfers.proofs.FlatBytes.{flatBytes, Bytes, flat-bytes}
+use Rattle.transfers.proofs.FlatBytes.{Bytes, flat-bytes}
 use Rattle.transfers.proofs.Labels.{chainMoves, chain-moves}
 
 -- the transfer from a to b goes that way

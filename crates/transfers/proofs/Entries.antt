@@ -8,9 +8,9 @@ use Rattle.answers.specs.Call.{Refusal, firstRefusal, Outcome}
 use Rattle.answers.specs.Sheet.{Lent}
 use Rattle.transfers.specs.declared.Transfer.{Transfer}
 use Rattle.transfers.specs.declared.Tally.{Tally}
-use Rattle.transfers.specs.Transfers.{flatTransfers}
+use Rattle.transfers.specs.Transfers.{flatTransfers, flatBytes}
 use Rattle.transfers.specs.Rehearse.{Rehearsed, RehearsesFlat, RehearsesRecords}
-use Rattle.transfers.proofs.FlatBytes.{flatBytes, flat-and-back, back-and-flat}
+use Rattle.transfers.proofs.FlatBytes.{flat-and-back, back-and-flat}
 use Rattle.transfers.proofs.Accepted.{entries-refuse-alike}
 
 -- of an outcome only the first refusal and what is done count

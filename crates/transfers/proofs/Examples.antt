@@ -11,24 +11,10 @@ use Rattle.answers.specs.Sheet.{counts}
 use Rattle.transfers.specs.declared.Act.the-variants.{Moves, OutOfRange, NotPermitted}
 use Rattle.transfers.specs.declared.Transfer.{Transfer}
 use Rattle.transfers.specs.Acts.{verdict, verdictBytes, plus, acted, after}
-use Rattle.transfers.specs.Transfers.{
-  transfer,
-  flatTransfers,
-  Way,
-  toSubject,
-  toObject,
-  Comes,
-  moves,
-  outside,
-  barred,
-  AllCome,
-  none,
-  next,
-}
+use Rattle.transfers.specs.Transfers.{transfer, flatTransfers, Way, toSubject, toObject, Comes, moves, outside, barred, AllCome, none, next, flatBytes}
 use Rattle.transfers.specs.Rehearse.{tally, raised, rehearsed, Rehearses}
 use Rattle.transfers.specs.Demand3.{transferOf, chainTransfers}
 use Rattle.transfers.proofs.Shares.{share}
-use Rattle.transfers.proofs.FlatBytes.{flatBytes}
 
 pub data Hop : ℕ → ℕ → Type 0 where
   written : Hop 0 2

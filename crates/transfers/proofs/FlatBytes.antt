@@ -5,11 +5,7 @@ use mathlib.Core.Path.{_≡_, refl, ap}
 use mathlib.Core.List.{List, [], _∷_}
 use lib.ListN.{length, getD}
 use Rattle.transfers.specs.declared.Transfer.{Transfer}
-use Rattle.transfers.specs.Transfers.{transfer, flatTransfers}
-
-unfoldable pub flatBytes : List Transfer → List ℕ
-flatBytes [] = []
-flatBytes (t ∷ ts) = t .subject ∷ t .object ∷ t .mode ∷ flatBytes ts
+use Rattle.transfers.specs.Transfers.{transfer, flatTransfers, flatBytes}
 
 pub flat-and-back : (ts : List Transfer) → flatTransfers (flatBytes ts) ≡ ts
 unfolding flatBytes flatTransfers

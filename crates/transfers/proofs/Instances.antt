@@ -10,27 +10,18 @@ use Rattle.answers.specs.Sheet.{sheetIn}
 use Rattle.theory.proofs.Chains.{chain-flow, one-best, shortest-distinct}
 use Rattle.access.specs.Channel.{Channel}
 use Rattle.transfers.specs.Acts.{verdict, verdictBytes, plus, acted, after}
-use Rattle.transfers.specs.Demand3.{transferOf, chainTransfers}
-use Rattle.transfers.specs.Transfers.{flatTransfers}
+use Rattle.transfers.specs.Demand3.{transferOf, chainTransfers, Alike, RehearsesChain, RehearsesChainFlat, Reached}
+use Rattle.transfers.specs.Transfers.{flatTransfers, flatBytes}
 use Rattle.transfers.specs.Rehearse.{tally, newTally, Rehearsed, rehearsed, raised, RehearsesRecords}
 use Rattle.transfers.proofs.Determined.{rehearse-determined, rehearse-records-determined}
 use Rattle.transfers.proofs.Moving.{AllMove}
 use Rattle.transfers.proofs.Shares.{share, weighed}
 use Rattle.transfers.proofs.Labels.{chainMoves, chain-along, share-outside, share-along}
 use Rattle.transfers.proofs.TwoRuns.{final-mark, label-lacks, label-holds}
-use Rattle.transfers.proofs.FlatBytes.{flatBytes}
 use Rattle.transfers.proofs.Chains.{chain-comes, chain-bytes}
 use Rattle.transfers.proofs.Entries.{threes-as-records}
-use Rattle.transfers.proofs.SameAnswers.{Alike, flat-alike, records-alike}
-use Rattle.transfers.proofs.ShownChain.{
-  RehearsesChain,
-  RehearsesChainFlat,
-  Reached,
-  accepted-flat-reach,
-  records-reach,
-  flat-reach,
-  label-reaches-flat,
-}
+use Rattle.transfers.proofs.SameAnswers.{flat-alike, records-alike}
+use Rattle.transfers.proofs.ShownChain.{accepted-flat-reach, records-reach, flat-reach, label-reaches-flat}
 use Rattle.transfers.proofs.Examples.{Hop, few}
 use Rattle.transfers.proofs.SmallSheet.{inside, sides, best, 1-stays, sheet, sheet-best, 1-not-to-2}
 use Rattle.transfers.proofs.SmallCalls.{

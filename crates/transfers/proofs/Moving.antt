@@ -3,13 +3,14 @@ use Prim.Native.Nat.{ℕ, zero, suc, _^_, _<_}
 use native.Mathlib.Omega.{arith}
 use mathlib.Core.Path.{_≡_, refl}
 use mathlib.Core.List.{List, [], _∷_}
-use lib.ListN.{length, getD, set, length-set}
+use lib.ListN.{length, set, length-set}
 use Rattle.answers.specs.declared.Counts.{Counts}
 use Rattle.transfers.specs.declared.Act.{Act}
 use Rattle.transfers.specs.declared.Act.the-variants.{Moves, OutOfRange, NotPermitted}
 use Rattle.transfers.specs.declared.Transfer.{Transfer}
 use Rattle.transfers.specs.Acts.{plus, acted, verdictBytes}
 use Rattle.transfers.specs.Transfers.{moves, outside, barred, AllCome, none, next}
+use Rattle.transfers.specs.Demand3.{Marks32}
 
 -- each act that moves does so along R
 pub data AllMove (R : ℕ → ℕ → Type 0) : List Act → Type 0 where
@@ -31,10 +32,6 @@ module _ {c : Counts} {ch : ℕ → ℕ → Type 0} where
   unfolding verdictBytes
   come-length none = refl
   come-length (next h rest) = omega (arith, come-length rest)
-
--- marks as a slice of 32-bit numbers holds them
-abbrev pub Marks32 : List ℕ → Type 0
-Marks32 marks = (z : ℕ) → getD marks z 0 < 2 ^ 32
 
 pub acted-length : (act : Act) (marks : List ℕ) → length (acted act marks) ≡ length marks
 unfolding acted

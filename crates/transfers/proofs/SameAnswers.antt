@@ -1,11 +1,11 @@
 -- Demand 3, first half, for the calls as they are: from marks that differ at x only, both calls answer and count the same, and an entity
 -- whose label lacks x ends with equal marks.
-use Prim.Native.Nat.{ℕ, _/_, _≤_, _<_}
+use Prim.Native.Nat.{ℕ, _/_, _≤_}
 use native.Mathlib.Decide.{ℕ-discrete}
 use mathlib.Core.Path.{_≡_, refl, sym, ap, subst, _∙_}
 use mathlib.Core.Logic.{_≢_}
 use mathlib.Core.List.{List}
-use lib.ListN.{length, getD, take}
+use lib.ListN.{length, take}
 use lib.Seq.{take-at}
 use Rattle.answers.specs.declared.Counts.{Counts}
 use Rattle.answers.specs.Call.{Refusal, firstRefusal, Outcome}
@@ -20,6 +20,7 @@ use Rattle.transfers.specs.declared.Transfer.{Transfer}
 use Rattle.transfers.specs.declared.Tally.{Tally}
 use Rattle.transfers.specs.Acts.{verdictBytes}
 use Rattle.transfers.specs.Transfers.{AllCome}
+use Rattle.transfers.specs.Demand3.{Starts, TwoLendings, Alike}
 use Rattle.transfers.specs.Rehearse.{
   Rehearsed,
   notRehearsed,
@@ -32,17 +33,9 @@ use Rattle.transfers.specs.Rehearse.{
 }
 use Rattle.transfers.proofs.Determined.{one-list}
 use Rattle.transfers.proofs.Moving.{come-length}
-use Rattle.transfers.proofs.TwoRuns.{Starts, TwoLendings, label-lacks}
+use Rattle.transfers.proofs.TwoRuns.{label-lacks}
 use Rattle.transfers.proofs.FlatBytes.{transfers-length}
 use Rattle.transfers.proofs.Accepted.{passed-room, flat-refused-alike, records-refused-alike}
-
--- what two results of one list of k transfers among n entities have in common
-pub record Alike (n : ℕ) (ch : ℕ → ℕ → Type 0) (x k : ℕ) (r r′ : Rehearsed) : Type 0 where
-  pub same-answer : r .answer ≡ r′ .answer
-  pub same-applied : r .applied ≡ r′ .applied
-  pub same-tally : r .tally ≡ r′ .tally
-  pub same-verdicts : r .answer ≡ 0 → take k (r .verdicts) ≡ take k (r′ .verdicts)
-  pub same-marks : (y : ℕ) → y < n → (Flow ch x y → ⊥) → getD (r .marks) y 0 ≡ getD (r′ .marks) y 0
 
 -- a verdict byte for each transfer stands at the start of the buffer
 pub list-verdicts : {c : Counts} {ch : ℕ → ℕ → Type 0} {ts : List Transfer} {acts : List Act} → AllCome c ch ts acts →

@@ -6,7 +6,7 @@ use native.Mathlib.Omega.{arith}
 use mathlib.Core.Path.{_≡_, refl, sym, ap, _∙_}
 use mathlib.Core.Bool.{false}
 use mathlib.Core.List.{List}
-use lib.ListN.{length, getD, take, replicate}
+use lib.ListN.{length}
 use Rattle.answers.specs.declared.Counts.{Counts}
 use Rattle.answers.specs.Call.{Refusal, firstRefusal, Outcome}
 use Rattle.answers.specs.Sheet.{Lent, sheetOf, sheetIn, entities}
@@ -19,28 +19,15 @@ use Rattle.access.specs.Channel.{Channel}
 use Rattle.access.proofs.Channels.{TwoSided, two-sided, channel-inside}
 use Rattle.access.proofs.Decided.{sheet-chain-exists}
 use Rattle.transfers.specs.declared.Tally.{Tally}
-use Rattle.transfers.specs.Rehearse.{Rehearsed, notRehearsed, rehearsed, Rehearses, recordRefusals, RehearsesFlat, RehearsesRecords}
-use Rattle.transfers.specs.Demand3.{chainTransfers}
+use Rattle.transfers.specs.Rehearse.{Rehearsed, notRehearsed, rehearsed, Rehearses, recordRefusals}
+use Rattle.transfers.specs.Demand3.{chainTransfers, TwoLendings, AllApplied, Reached, RehearsesChain, RehearsesChainFlat, Ready}
 use Rattle.transfers.proofs.Determined.{one-list}
 use Rattle.transfers.proofs.Labels.{chainMoves}
 use Rattle.transfers.proofs.Chains.{chain-transfers-length, chain-comes, chain-verdicts, chain-applied}
-use Rattle.transfers.proofs.TwoRuns.{TwoLendings, label-holds}
-use Rattle.transfers.proofs.FlatBytes.{flatBytes}
-use Rattle.transfers.proofs.Accepted.{Ready, sheet-room, passed-room, records-refused-alike, records-pass}
+use Rattle.transfers.proofs.TwoRuns.{label-holds}
+use Rattle.transfers.proofs.Accepted.{sheet-room, passed-room, records-refused-alike, records-pass}
 use Rattle.transfers.proofs.Entries.{flat-as-records}
 use Rattle.transfers.proofs.SameAnswers.{list-verdicts}
-
--- a rehearsal of k transfers, accepted and all applied
-pub record AllApplied (k : ℕ) (r : Rehearsed) : Type 0 where
-  pub accepted : r .answer ≡ 0
-  pub all-counted : r .applied ≡ k
-  pub all-zero : take k (r .verdicts) ≡ replicate k 0
-
--- two such, with different marks at y
-pub record Reached (k y : ℕ) (r r′ : Rehearsed) : Type 0 where
-  pub applied : AllApplied k r
-  pub applied′ : AllApplied k r′
-  pub differ : getD (r .marks) y 0 ≡ getD (r′ .marks) y 0 → ⊥
 
 -- over any channels that join subjects and objects only
 module _ {c : Counts} {ch : ℕ → ℕ → Type 0} (sides : (a b : ℕ) → ch a b → TwoSided c a b) {x y : ℕ} {l : List ℕ} (chain : Chain ch x y l)
@@ -67,13 +54,6 @@ accepted-passes {refusals} o e = go (ℕ-discrete (firstRefusal refusals) 0)
     go : Dec (firstRefusal refusals ≡ 0) → firstRefusal refusals ≡ 0
     go (yes none) = none
     go (no some) = sym (ap (λ r. r .answer) (o .refusal some)) ∙ e
-
--- the calls that rehearse the transfers of a chain
-abbrev pub RehearsesChain : Lent → List ℕ → List ℕ → List ℕ → Tally → Rehearsed → Type 0
-RehearsesChain l chain = RehearsesRecords l (chainTransfers (l .counts) chain)
-
-abbrev pub RehearsesChainFlat : Lent → List ℕ → List ℕ → List ℕ → Tally → Rehearsed → Type 0
-RehearsesChainFlat l chain = RehearsesFlat l (flatBytes (chainTransfers (l .counts) chain))
 
 module _ (l : Lent) {x y : ℕ} {chain : List ℕ} (best : Best (Channel (sheetIn l)) x y chain) where
   -- it has at most as many entities as the sheet

@@ -11,7 +11,7 @@ use Rattle.answers.specs.Sheet.{sheetOf, entities}
 use Rattle.answers.specs.Refusals.{sheetRefusals}
 use Rattle.answers.proofs.Calls.{accept, refuse}
 use Rattle.access.proofs.Channels.{two-sided}
-use Rattle.transfers.specs.Demand3.{chainTransfers}
+use Rattle.transfers.specs.Demand3.{chainTransfers, Marks32, Starts, TwoLendings, RehearsesChain, RehearsesChainFlat, Ready}
 use Rattle.transfers.specs.Rehearse.{
   newTally,
   Rehearsed,
@@ -22,13 +22,9 @@ use Rattle.transfers.specs.Rehearse.{
   recordRefusals,
   RehearsesFlat,
 }
-use Rattle.transfers.proofs.Moving.{Marks32}
 use Rattle.transfers.proofs.Labels.{chainMoves}
-use Rattle.transfers.proofs.TwoRuns.{Starts, TwoLendings}
 use Rattle.transfers.proofs.Chains.{chain-comes}
-use Rattle.transfers.proofs.Accepted.{Ready}
 use Rattle.transfers.proofs.Entries.{records-as-flat}
-use Rattle.transfers.proofs.ShownChain.{RehearsesChain, RehearsesChainFlat}
 use Rattle.transfers.proofs.Examples.{few}
 use Rattle.transfers.proofs.SmallSheet.{sheet, sheet-best}
 

@@ -22,33 +22,11 @@ use Rattle.transfers.specs.declared.Act.the-variants.{Moves}
 use Rattle.transfers.specs.declared.Transfer.{Transfer}
 use Rattle.transfers.specs.Acts.{plus, acted, after}
 use Rattle.transfers.specs.Transfers.{AllCome}
-use Rattle.transfers.specs.Demand3.{DifferAt}
-use Rattle.transfers.proofs.Moving.{
-  AllMove,
-  still,
-  move,
-  skip-outside,
-  skip-barred,
-  come-move,
-  Marks32,
-  acted-length,
-  acted-marks,
-}
+use Rattle.transfers.specs.Demand3.{Marks32, Starts}
+use Rattle.transfers.proofs.Moving.{AllMove, still, move, skip-outside, skip-barred, come-move, acted-length, acted-marks}
 use Rattle.transfers.proofs.Sums.{sum-but-one}
 use Rattle.transfers.proofs.Shares.{share, weighed, weighed-none, exchange, two-runs}
 use Rattle.transfers.proofs.Labels.{chainMoves, chain-along, share-along}
-
--- two sets of 32-bit starting marks of n entities that differ at entity x only
-pub record Starts (n x : ℕ) (marks marks′ : List ℕ) : Type 0 where
-  pub entity : x < n
-  pub bits : Marks32 marks
-  pub bits′ : Marks32 marks′
-  pub apart : DifferAt n x marks marks′
-
--- "lent in buffers of the same lengths, the verdict bytes too"
-pub record TwoLendings (n x : ℕ) (marks marks′ verdicts verdicts′ : List ℕ) : Type 0 where
-  pub starts : Starts n x marks marks′
-  pub same-verdict-length : length verdicts ≡ length verdicts′
 
 -- ---- where y's label holds x
 -- a move keeps the weighed sum, modulo 2 ^ 32

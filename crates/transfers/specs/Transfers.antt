@@ -19,6 +19,11 @@ flatTransfers (s ∷ []) = []
 flatTransfers (s ∷ o ∷ []) = []
 flatTransfers (s ∷ o ∷ m ∷ bytes) = transfer s o m ∷ flatTransfers bytes
 
+-- the flat bytes of transfers
+unfoldable pub flatBytes : List Transfer → List ℕ
+flatBytes [] = []
+flatBytes (t ∷ ts) = t .subject ∷ t .object ∷ t .mode ∷ flatBytes ts
+
 -- "A transfer is subject, object, mode: 1 moves from object to subject, 2 the other way": the way of a transfer, from a to b
 pub data Way (c : Counts) (t : Transfer) : ℕ → ℕ → Type 0 where
   toSubject : t .subject < c .subjects → t .object < c .objects → t .mode ≡ 1 → Way c t (objectEntity c (t .object)) (t .subject)

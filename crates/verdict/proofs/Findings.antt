@@ -5,30 +5,19 @@ use mathlib.Core.Logic.{_≢_}
 use mathlib.Core.List.{List}
 use native.Mathlib.Decide.{ℕ-discrete}
 use native.Mathlib.Omega.{arith}
-use lib.ListN.{length}
 use Rattle.answers.specs.Call.{firstRefusal}
-use Rattle.answers.specs.Rows.{at, Mark, over}
+use Rattle.answers.specs.Rows.{at, Mark}
 use Rattle.answers.specs.Sheet.{Lent, Sheet, sheetIn, sheetOf, entities, from, to}
 use Rattle.answers.specs.Inner.{Listed}
 use Rattle.answers.proofs.Marks.{mark-of, marked-yes}
 use Rattle.answers.proofs.Tables.{at-over}
-use Rattle.theory.specs.Chain.{Best}
 use Rattle.graph.specs.Written.{FlowTable}
 use Rattle.access.specs.Channel.{Channel}
 use Rattle.verdict.specs.declared.Judged.{Judged}
-use Rattle.verdict.specs.Judge.{Broken, FirstBroken, AllHold, Verdict, hold, broken, judgeRefusals, Judges}
+use Rattle.verdict.specs.Judge.{Broken, AllHold, Verdict, hold, broken, judgeRefusals, Judges, Finding}
 use Rattle.verdict.proofs.Verdicts.{one-first}
 use Rattle.verdict.proofs.Bounds.{refusal-low}
 use Rattle.verdict.proofs.Judging.{judgeable}
-
--- the told position is that of the first broken separation, and the buffer begins with its chain, the shortest and of those the
--- smallest
-pub record Finding (ch : ℕ → ℕ → Type 0) (count : ℕ) (separations before : List ℕ) (j : Judged) (after : List ℕ) : Type 0 where
-  pub first : FirstBroken ch count separations (j .position)
-  pub chain : List ℕ
-  pub best : Best ch (from separations (j .position)) (to separations (j .position)) chain
-  pub counted : j .count ≡ length chain
-  pub written : after ≡ over chain before
 
 -- ---- by the verdict
 module _ {ch : ℕ → ℕ → Type 0} {count : ℕ} {separations before : List ℕ} {j : Judged} {after : List ℕ} where

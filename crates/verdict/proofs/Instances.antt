@@ -18,9 +18,9 @@ use Rattle.theory.proofs.Flows.{flow-closed, flow-more}
 use Rattle.theory.proofs.Chains.{best-agrees}
 use Rattle.graph.specs.Written.{FlowTable}
 use Rattle.access.specs.Channel.{read, May, Assigned, Plain, Channel, reads, writes}
-use Rattle.verdict.specs.Judge.{judged, broken, judgeRefusals, Judges}
+use Rattle.verdict.specs.Judge.{judged, broken, judgeRefusals, Judges, Finding}
 use Rattle.verdict.proofs.Bounds.{Small, judged-small}
-use Rattle.verdict.proofs.Findings.{Finding, finding, table-answered}
+use Rattle.verdict.proofs.Findings.{finding, table-answered}
 
 data Hop : ℕ → ℕ → Type 0 where
   hop : Hop 0 1

@@ -50,3 +50,11 @@ abbrev pub Judges : Lent → ℕ → List ℕ → List ℕ → Judged × List �
 Judges l count separations before =
     Outcome (judgeRefusals l count separations before) (λ n. (judged n 0 0, before))
     (Verdict (Channel (sheetOf l count separations)) count separations before)
+
+-- "The first broken separation is named .. and the shortest is shown": what an answer of 14 tells
+pub record Finding (ch : ℕ → ℕ → Type 0) (count : ℕ) (separations before : List ℕ) (j : Judged) (after : List ℕ) : Type 0 where
+  pub first : FirstBroken ch count separations (j .position)
+  pub chain : List ℕ
+  pub best : Best ch (from separations (j .position)) (to separations (j .position)) chain
+  pub counted : j .count ≡ length chain
+  pub written : after ≡ over chain before
