@@ -85,7 +85,7 @@ module _ {c : Counts} {assigned assigned′ : ℕ → ℕ → Type 0} {held held
       go (yes same) = inr (rw same at e)
       go (no other) = inl (writes o l h e (may-more (λ r k. writes-more r o k l other) h m))
 
--- a role that no subject has makes no channel: whatever it holds, the channels are the same
+-- a role that no subject has makes no channel: whatever it holds instead, each channel stays; so, taken both ways, the channels are the same
 module _ {c : Counts} {assigned : ℕ → ℕ → Type 0} {held held′ : ℕ → ℕ → ℕ → Type 0} (r : ℕ) (nobody : (s : ℕ) → s < c .subjects → assigned s r → ⊥) (others : (q o m : ℕ) → (q ≡ r → ⊥) → held q o m → held′ q o m) where
   may-without : {wanted s o : ℕ} → s < c .subjects → May c assigned held wanted s o → May c assigned held′ wanted s o
   may-without {wanted} {s} {o} hs m =

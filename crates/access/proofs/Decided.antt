@@ -77,7 +77,7 @@ module _ (t : Sheet) where
   pub sheet-flow-decided : (x y : ℕ) → x < entities (t .counts) → Dec (Flow (Channel t) x y)
   sheet-flow-decided x y h = flow-decided channel-inside sheet-channel-decided y x h
 
-  -- a chain exists exactly if x flows to y, and has at most N entities
+  -- a chain exists exactly if x flows to y
   pub sheet-chain-exists : {x y : ℕ} → Flow (Channel t) x y → (l : List ℕ) × Best (Channel t) x y l
   sheet-chain-exists {y = y} f = best-exists channel-inside sheet-channel-decided y f
 

@@ -81,6 +81,15 @@ module _ {R : Type 0} {refusals : List Refusal} {refused : ℕ → R} {Done : R 
   pub accept : {result : R} → firstRefusal refusals ≡ 0 → Done result → Outcome refusals refused Done result
   accept none d = record { refusal = λ some. absurd (some none); done = λ _. d }
 
+  -- A call that answers 0 has refused nothing.
+  pub answered : {result : R} (answer : R → ℕ) → ((n : ℕ) → answer (refused n) ≡ n) → Outcome refusals refused Done result → answer result ≡ 0 →
+      firstRefusal refusals ≡ 0
+  answered answer tells o e = go (firstRefusal refusals) refl
+    where
+      go : (n : ℕ) → firstRefusal refusals ≡ n → firstRefusal refusals ≡ 0
+      go zero q = q
+      go (suc n) q = sym (tells (firstRefusal refusals)) ∙ ap answer (sym (o .refusal (λ none. suc-ne-zero n (sym q ∙ none)))) ∙ e
+
   -- Two outcomes of one call are equal, where two results that are done are.
   pub determined : {r₁ r₂ : R} → (firstRefusal refusals ≡ 0 → Done r₁ → Done r₂ → r₁ ≡ r₂) →
       Outcome refusals refused Done r₁ → Outcome refusals refused Done r₂ → r₁ ≡ r₂

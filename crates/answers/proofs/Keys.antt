@@ -1,14 +1,9 @@
 -- `pairKey` ascends by the first number and then by the second, for numbers that are bytes.
 use Prim.Native.Nat.{ℕ, _<_}
-use mathlib.Core.Path.{_≡_}
-use mathlib.Core.Logic.{_⊎_, inl, inr}
+use mathlib.Core.Logic.{inl, inr}
 use native.Mathlib.Decide.{decLt}
 use native.Mathlib.Omega.{arith}
-use Rattle.answers.specs.Sheet.{pairKey}
-
--- the pair a, b stands before the pair c, d
-abbrev pub PairBefore : ℕ → ℕ → ℕ → ℕ → Type 0
-PairBefore a b c d = (a < c) ⊎ ((a ≡ c) × (b < d))
+use Rattle.answers.specs.Sheet.{pairKey, PairBefore}
 
 module _ (a b c d : ℕ) (hb : b < 256) (hd : d < 256) where
   pub key-before : pairKey a b < pairKey c d → PairBefore a b c d

@@ -1,4 +1,4 @@
--- Laws of `Mark`, `Row`, `Marked` and `over`: each determines its bytes.
+-- Laws of `Mark`, `Row` and `Marked`: each determines its bytes.
 use mathlib.Core.Path.{_≡_, sym, _∙_}
 use mathlib.Core.List.{List}
 use Prim.Native.Nat.{ℕ, _*_, _/_, _%_, _≤_, _<_}

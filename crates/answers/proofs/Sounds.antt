@@ -1,4 +1,4 @@
--- A call on tables goes on exactly if the sheet in them is sound and the buffers have their least lengths.
+-- A call on tables goes on exactly if the sheet in them is sound, all its separations are lent, and the buffers have their least lengths.
 use mathlib.Core.Path.{_≡_, ap₂}
 use mathlib.Core.List.{List}
 use Prim.Native.Nat.{ℕ, _+_, _*_, _≤_, _<_}

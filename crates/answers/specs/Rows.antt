@@ -61,6 +61,6 @@ shorter buffer least = ltb (length buffer) least
 abbrev pub exceeds : ℕ → ℕ → Bool
 exceeds count most = ltb most count
 
--- "a byte above": one of the first `used` bytes is above `most`
+-- "11 | an assignment byte above 1 or a permission byte above 3": one of the first `used` bytes is above `most`
 abbrev pub someAbove : List ℕ → ℕ → ℕ → Bool
 someAbove bytes used most = anyBelow used (λ i. ltb most (getD bytes i 0))

@@ -1,5 +1,6 @@
 -- The tables of a sheet: as they are lent, and as what they say.
 use mathlib.Core.Path.{_≡_}
+use mathlib.Core.Logic.{_⊎_}
 use mathlib.Core.List.{List, []}
 use Prim.Native.Nat.{ℕ, _+_, _*_, _≤_, _<_}
 use lib.ListN.{length, getD, take}
@@ -69,7 +70,11 @@ from separations i = getD separations (2 * i) 0
 abbrev pub to : List ℕ → ℕ → ℕ
 to separations i = getD separations (2 * i + 1) 0
 
--- "Lines ascend strictly: .. by the two bytes after it": for bytes, the number that ascends by the first and then by the second
+-- "Lines ascend strictly: .. by the two bytes after it": the pair a, b stands before the pair c, d
+abbrev pub PairBefore : ℕ → ℕ → ℕ → ℕ → Type 0
+PairBefore a b c d = (a < c) ⊎ ((a ≡ c) × (b < d))
+
+-- for bytes, the number that ascends so
 abbrev pub pairKey : ℕ → ℕ → ℕ
 pairKey a b = a * 256 + b
 

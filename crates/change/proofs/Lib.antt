@@ -2,5 +2,6 @@
 pub mod Changes
 pub mod Turning
 pub mod Placed
+pub mod Between
 pub mod Determined
 pub mod Example

@@ -15,8 +15,13 @@ use Rattle.answers.proofs.Products.{place-below, product-within}
 use Rattle.change.specs.Change.{setAssignmentRefusals, setPermissionRefusals, SetsAssignment, SetsPermission, assignmentPlace, permissionPlace}
 use Rattle.change.specs.Inner.{rangeRefusals}
 
--- a byte that passed 6 lies within what the table's rows and columns are within
-in-table : (rows columns most i j value m n l : ℕ) → rows ≤ m → columns ≤ n → m * n ≤ l →
+-- a byte that passed 6 lies in a column of the table
+pub column-below : (rows columns most i j value : ℕ) → firstRefusal (rangeRefusals rows columns most i j value) ≡ 0 → j < columns
+unfolding rangeRefusals
+column-below rows columns most i j value e = leb-false _ _ (passed _ _ _ tt (passed _ _ _ tt e .1) .0)
+
+-- and within what the table's rows and columns are within
+pub in-table : (rows columns most i j value m n l : ℕ) → rows ≤ m → columns ≤ n → m * n ≤ l →
     firstRefusal (rangeRefusals rows columns most i j value) ≡ 0 → i * columns + j < l
 unfolding rangeRefusals
 in-table rows columns most i j value m n l hr hc hl e =

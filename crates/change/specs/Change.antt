@@ -7,9 +7,11 @@ use lib.Dec.{leb, ltb}
 use lib.ListN.{set}
 use Rattle.answers.specs.declared.Counts.{Counts}
 use Rattle.answers.specs.Call.{Refusal, _if_, _then_, Outcome, left}
-use Rattle.answers.specs.Sheet.{Lent, Sheet}
+use Rattle.answers.specs.Sheet.{Lent, Sheet, entities}
 use Rattle.answers.specs.Refusals.{sheetRefusals}
 use Rattle.access.specs.Channel.{read, write, Has}
+use Rattle.flow.specs.Fill.{Fills}
+use Rattle.flow.specs.Effects.{Affects}
 
 -- the place of an assignment byte, "at s x R + r"
 abbrev pub assignmentPlace : Counts → ℕ → ℕ → ℕ
@@ -80,3 +82,13 @@ abbrev pub SetsPermission : Lent → ℕ → ℕ → ℕ → ℕ × List ℕ →
 SetsPermission l r o mode =
     Outcome (setPermissionRefusals l r o mode) (left (l .permission))
     (λ result. result ≡ (0, set (l .permission) (permissionPlace (l .counts) r o) mode))
+
+-- "Between filled tables": `fill` wrote the table before for l and the one after for l′, and `effect` wrote bytes from the two, each
+-- with answer 0
+pub record Between (l l′ : Lent) (before after bytes : List ℕ) : Type 0 where
+  pub unfilled : List ℕ
+  pub filled : Fills l unfilled (0, before)
+  pub unfilled′ : List ℕ
+  pub filled′ : Fills l′ unfilled′ (0, after)
+  pub unwritten : List ℕ
+  pub affected : Affects (entities (l .counts)) before after unwritten (0, bytes)

@@ -4,7 +4,7 @@ use mathlib.Core.Bool.{true, false}
 use mathlib.Core.List.{[], _∷_, map}
 use Rattle.digits.specs.Digit.{isDigit, digitValue, digitByte, digitPairs, toBytes, toDigits}
 use Rattle.digits.specs.Line.{line, joined, lines, nonEmpty, soundLine, lineOf, lineSize, sizeOf, lineStart, lineEnd}
-use Rattle.digits.proofs.Text.{codes}
+use Rattle.digits.specs.Text.{codes}
 
 -- the first and the last digit of each range, and the bytes next to them
 are-digits : map isDigit (codes "09af") ≡ true ∷ true ∷ true ∷ true ∷ []

@@ -7,5 +7,4 @@ pub mod Pairs
 pub mod Ends
 pub mod Starts
 pub mod Puts
-pub mod Text
 pub mod Examples

@@ -41,6 +41,11 @@ pub filled-answers : (t : Sheet) (before after : List ℕ) → FlowFilled t befo
     EqualAnswers (entities (t .counts)) (SheetFlow t) (Bytes (entities (t .counts)) after) x y
 filled-answers t before after f x y hx hy = equal-answers (filled-agrees t before after f) hx hy
 
+-- and what a question on the table answers is so of the sheet's flow
+pub table-answers : (t : Sheet) (before after : List ℕ) → FlowFilled t before after → (x y : ℕ) → x < entities (t .counts) → y < entities (t .counts) →
+    EqualAnswers (entities (t .counts)) (Bytes (entities (t .counts)) after) (SheetFlow t) x y
+table-answers t before after f x y hx hy = equal-answers (agree-turned (filled-agrees t before after f)) hx hy
+
 -- "In a filled table, flow from x to y holds exactly if x's label is included in y's"
 module _ (t : Sheet) (before after : List ℕ) (f : FlowFilled t before after) (x y : ℕ) (hx : x < entities (t .counts)) (hy : y < entities (t .counts)) where
   agree : Agree (entities (t .counts)) (SheetFlow t) (Bytes (entities (t .counts)) after)

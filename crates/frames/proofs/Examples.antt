@@ -1,12 +1,12 @@
 -- A text for every refusal, and two faults in one line: which number is answered, at which line.
 use mathlib.Core.Path.{_≡_, refl}
 use mathlib.Core.List.{[], _∷_, _++_}
-use Rattle.digits.proofs.Text.{codes}
 use Rattle.frames.specs.declared.Frame.the-variants.{Header, End}
 use Rattle.frames.specs.declared.Verdict.the-variants.{Refused, Accepted}
 use Rattle.frames.specs.Check.{framesOf}
 use Rattle.frames.proofs.Checks.{TextOf, accepted-frames}
 use Rattle.frames.proofs.Verdicts.{bytesVerdict, verdict, separated}
+use Rattle.digits.specs.Text.{codes}
 
 record Passing : Type 0 where
   least : verdict "01000000\n050001\n" ≡ Accepted

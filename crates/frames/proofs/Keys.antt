@@ -1,24 +1,15 @@
 -- `key` ascends by the first byte of the frame, then by the two bytes after it.
-use Prim.Native.Nat.{ℕ, _+_, _*_, _<_}
+use Prim.Native.Nat.{_+_, _*_, _<_}
 use mathlib.Core.Path.{_≡_, refl}
-use mathlib.Core.Logic.{_↔_, _⊎_, inl, inr}
+use mathlib.Core.Logic.{_↔_, inl, inr}
 use native.Mathlib.Decide.{decLt}
 use native.Mathlib.Omega.{arith}
-use lib.ListN.{getD}
 use Rattle.answers.specs.Sheet.{pairKey}
-use Rattle.answers.proofs.Keys.{PairBefore, key-before, before-key}
+use Rattle.answers.proofs.Keys.{key-before, before-key}
 use Rattle.digits.proofs.Digits.{Bytes}
 use Rattle.frames.specs.declared.Frame.{Frame}
 use Rattle.frames.specs.declared.Frame.the-variants.{Header, Assign, Permit, Separate, End}
-use Rattle.frames.specs.Frame.{frameBytes, key}
-
-abbrev pub byteOf : Frame → ℕ → ℕ
-byteOf f i = getD (frameBytes f) i 0
-
--- "Lines ascend strictly: by first byte, then by the two bytes after it"
-abbrev pub LineBefore : Frame → Frame → Type 0
-LineBefore f g =
-    (byteOf f 0 < byteOf g 0) ⊎ ((byteOf f 0 ≡ byteOf g 0) × PairBefore (byteOf f 1) (byteOf f 2) (byteOf g 1) (byteOf g 2))
+use Rattle.frames.specs.Frame.{frameBytes, key, byteOf, LineBefore}
 
 pub key-bytes : (f : Frame) → key f ≡ byteOf f 0 * 65536 + pairKey (byteOf f 1) (byteOf f 2)
 unfolding key frameBytes

@@ -5,7 +5,7 @@ use mathlib.Core.List.{List, [], _∷_, _++_}
 use Rattle.answers.specs.Call.{firstRefusal}
 use Rattle.digits.specs.Digit.{isDigit, digitValue, digitByte, digitPairs, toBytes, toDigits}
 use Rattle.digits.specs.Line.{joined, lines, nonEmpty, soundLine, lineOf}
-use Rattle.digits.proofs.Text.{codes}
+use Rattle.digits.specs.Text.{codes}
 use Rattle.frames.specs.declared.Verdict.{Verdict}
 use Rattle.frames.specs.Frame.{ofThree, ofFour, frameOf, parse, key}
 use Rattle.frames.specs.Check.{

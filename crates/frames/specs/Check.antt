@@ -97,7 +97,7 @@ parsedRefusals k (Good f) = frameRefusals k f
 unfoldable pub lineRefusals : Passed → Parsed → List Refusal
 lineRefusals k p = (9 if k .ended) ∷ parsedRefusals k p
 
--- the same after a line that is not refused
+-- what is known after a line that is not refused
 unfoldable pub nextLine : Passed → Parsed → Passed
 nextLine k NoBytes = k
 nextLine k NoFrame = k

@@ -1,9 +1,12 @@
 -- Frames: their bytes, and the order of their lines.
-use Prim.Native.Nat.{ℕ, _+_, _*_}
+use Prim.Native.Nat.{ℕ, _+_, _*_, _<_}
+use mathlib.Core.Path.{_≡_}
+use mathlib.Core.Logic.{_⊎_}
 use mathlib.Core.Bool.{cond}
 use mathlib.Core.List.{List, [], _∷_, _++_}
 use lib.Dec.{eqb}
-use Rattle.answers.specs.Sheet.{pairKey}
+use lib.ListN.{getD}
+use Rattle.answers.specs.Sheet.{PairBefore, pairKey}
 use Rattle.digits.specs.Digit.{toBytes}
 use Rattle.digits.specs.Line.{Line, soundLine, lineOf}
 use Rattle.frames.specs.declared.Frame.{Frame}
@@ -45,8 +48,16 @@ unfoldable pub textOf : List Frame → List ℕ
 textOf [] = []
 textOf (f ∷ fs) = lineOf (frameBytes f) ++ textOf fs
 
--- "Lines ascend strictly: by first byte, then by the two bytes after it (the mode takes no part)": for bytes, the number that
--- ascends so
+-- byte i of a frame
+abbrev pub byteOf : Frame → ℕ → ℕ
+byteOf f i = getD (frameBytes f) i 0
+
+-- "Lines ascend strictly: by first byte, then by the two bytes after it (the mode takes no part)": f stands before g
+abbrev pub LineBefore : Frame → Frame → Type 0
+LineBefore f g =
+    (byteOf f 0 < byteOf g 0) ⊎ ((byteOf f 0 ≡ byteOf g 0) × PairBefore (byteOf f 1) (byteOf f 2) (byteOf g 1) (byteOf g 2))
+
+-- for bytes, the number that ascends so
 unfoldable pub key : Frame → ℕ
 key (Header s o r) = 1 * 65536 + pairKey s o
 key (Assign s r) = 2 * 65536 + pairKey s r

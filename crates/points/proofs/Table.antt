@@ -9,7 +9,8 @@ use Rattle.theory.specs.Order.{only-there}
 use Rattle.access.specs.Channel.{Channel}
 use Rattle.change.specs.Change.{withPermission}
 use Rattle.text.specs.Reading.{accepted, readText}
-use Rattle.text.proofs.Worked.{workedText, worked, reads-worked}
+use Rattle.text.specs.Worked.{workedText}
+use Rattle.text.proofs.Worked.{worked, reads-worked}
 use Rattle.transfers.specs.declared.Act.the-variants.{Moves, NotPermitted}
 use Rattle.transfers.specs.Acts.{verdictBytes, after}
 use Rattle.transfers.specs.Transfers.{toSubject, toObject, moves, barred, none, next}

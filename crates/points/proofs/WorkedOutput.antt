@@ -11,17 +11,15 @@ use Rattle.answers.specs.Sheet.{Sheet, entities}
 use Rattle.theory.specs.Flow.{Flow}
 use Rattle.digits.specs.Digit.{digitByte, toDigits}
 use Rattle.digits.specs.Line.{lineOf}
-use Rattle.digits.proofs.Text.{codes}
+use Rattle.digits.specs.Text.{codes}
 use Rattle.access.specs.Channel.{Channel}
-use Rattle.text.proofs.Worked.{workedText, worked, reads-worked}
+use Rattle.text.specs.Worked.{workedText}
+use Rattle.text.proofs.Worked.{worked, reads-worked}
 use Rattle.report.specs.Output.{EntityLine, none, next, broken, sheet-lines, Output}
 use Rattle.points.proofs.Computed.{chainb}
 use Rattle.points.proofs.ComputedSheet.{channelb, sheet-flows, sheet-chain}
 use Rattle.points.proofs.ComputedQuestions.{flowb, noneb, others, together, flags, label-is, class-is, greatest-is}
-
-unfoldable pub printed : List ℕ
-unfolding codes
-printed = codes "8100000201\n8101010003\n8102020102\n8103030002\n8104040104\n8105050201\n8201000400030104\n"
+use Rattle.points.specs.Printed.{printed}
 
 -- the line of an entity, from its class name and its label as they compute
 module _ (t : Sheet) (x name : ℕ) (row : List ℕ) (hx : x < entities (t .counts)) where

@@ -1,2 +1,3 @@
 -- The worked points of document 01, as one table.
 pub mod Points
+pub mod Printed

@@ -13,7 +13,7 @@ use Rattle.theory.specs.Flow.{Flow, here}
 use Rattle.theory.proofs.Orders.{isolated}
 use Rattle.digits.specs.Digit.{digitByte, toDigits}
 use Rattle.digits.specs.Line.{lineOf}
-use Rattle.digits.proofs.Text.{codes}
+use Rattle.digits.specs.Text.{codes}
 use Rattle.access.specs.Channel.{Channel, reads, writes}
 use Rattle.text.proofs.Worked.{reading}
 use Rattle.verdict.specs.Judge.{AllHold}

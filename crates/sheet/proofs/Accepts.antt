@@ -1,4 +1,5 @@
--- `write` refuses nothing exactly if the sheet in the tables is sound and every lent buffer has its least length.
+-- `write` refuses nothing exactly if the sheet in the tables is sound, all its separations are lent, and every lent buffer has its least
+-- length.
 use Prim.Native.Nat.{ℕ, _*_, _≤_}
 use mathlib.Core.Path.{_≡_, refl}
 use mathlib.Core.Bool.{Bool, true, false, _||_, true≢false}
@@ -40,7 +41,7 @@ module _ (l : Lent) (count : ℕ) (separations text : List ℕ) where
       }))
       (separations-pass _ separations count (listed-of l count separations p room))
 
-  pub refused-none : firstRefusal (writeRefusals l count separations text) ≡ 0 → Sound (sheetOf l count separations) × Long l separations text
+  pub refused-none : firstRefusal (writeRefusals l count separations text) ≡ 0 → Sound (sheetOf l count separations) × (2 * count ≤ length separations) × Long l separations text
   unfolding writeRefusals
   refused-none e =
       let parts = passed-then _ _ (sheet-numbered _ false l) e in
@@ -49,5 +50,6 @@ module _ (l : Lent) (count : ℕ) (separations text : List ℕ) where
       let listed = separations-passed _ separations count (parts .1) in
       let room : leastSeparations ≤ length separations = ltb-false _ _ (short .0) in (
         sound-of l count separations (tables .sized) (omega (arith, listed .few)) listed,
+        omega (arith, listed .few),
         record { assignment = tables .sized .assignment; permission = tables .sized .permission; separations-long = room; text-long = ltb-false _ _ (short .1) },
       )

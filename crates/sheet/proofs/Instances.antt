@@ -11,9 +11,10 @@ use Rattle.answers.specs.Sizes.{leastAssignment, leastPermission, leastSeparati
 use Rattle.answers.specs.Sheet.{counts}
 use Rattle.answers.proofs.Calls.{accept}
 use Rattle.text.specs.Content.{writeSheet}
+use Rattle.text.specs.Worked.{workedText}
 use Rattle.sheet.specs.Read.{ReadResult, tablesRead, readResult, Reads}
 use Rattle.sheet.specs.RoundTrip.{sheetRead, WritesRead}
-use Rattle.text.proofs.Worked.{reading, workedText, worked}
+use Rattle.text.proofs.Worked.{reading, worked}
 use Rattle.text.proofs.RoundTrip.{worked-sound}
 use Rattle.reader.specs.Fill.{Long}
 use Rattle.sheet.proofs.ReadDone.{lengths-pass}

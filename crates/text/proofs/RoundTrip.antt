@@ -20,7 +20,8 @@ use Rattle.frames.proofs.Frames.{text-written}
 use Rattle.frames.proofs.Checks.{accepted-frames, frames-again}
 use Rattle.text.specs.Content.{contentOf, framesIn, writeSheet}
 use Rattle.text.specs.Reading.{refused, accepted, readBy, readLines, readText}
-use Rattle.text.proofs.Worked.{workedText, worked, reads-worked}
+use Rattle.text.specs.Worked.{workedText}
+use Rattle.text.proofs.Worked.{worked, reads-worked}
 use Rattle.text.proofs.ReadBack.{read-back}
 use Rattle.text.proofs.WriteBack.{frames-pass}
 use Rattle.text.proofs.Added.{content-back}

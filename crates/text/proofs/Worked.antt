@@ -5,12 +5,13 @@ use mathlib.Core.List.{List, [], _∷_}
 use Rattle.answers.specs.Sheet.{Sheet, counts}
 use Rattle.digits.specs.Digit.{digitByte, toDigits}
 use Rattle.digits.specs.Line.{lineOf}
-use Rattle.digits.proofs.Text.{codes}
+use Rattle.digits.specs.Text.{codes}
 use Rattle.frames.specs.Frame.{frameBytes, textOf}
 use Rattle.frames.specs.Check.{framesOf}
 use Rattle.frames.proofs.Verdicts.{bytesVerdict}
 use Rattle.text.specs.Content.{sheet, blank, add, addAll, contentOf, present, assignAt, permitAt, separates, body, opened, closing, framesIn, writeSheet}
 use Rattle.text.specs.Reading.{Read, accepted, readBy, readLines, readText}
+use Rattle.text.specs.Worked.{workedText}
 
 -- To compute a text or a sheet, say `unfolding reading` or `unfolding writing`: each opens every definition that it needs, those of
 -- `bytesVerdict` among them.
@@ -21,11 +22,6 @@ reading text = readText text
 unfoldable pub writing : Sheet → List ℕ
 unfolding digitByte toDigits lineOf frameBytes textOf present assignAt permitAt separates body opened closing framesIn writeSheet
 writing t = writeSheet t
-
-unfoldable pub workedText : List ℕ
-unfolding codes
-workedText =
-    codes "01030304\n020000\n020101\n020202\n03000002\n03010001\n03010102\n03020201\n03030101\n03030202\n040004\n040402\n05000c\n"
 
 -- a row for each of three subjects, a row for each of four roles, and two separations
 unfoldable pub worked : Sheet

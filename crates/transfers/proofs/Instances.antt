@@ -1,4 +1,4 @@
--- Every law of this folder at the small sheet and its network: the premises are met.
+-- The laws of demand 3 at the small sheet and its network: their premises are met.
 use Prim.Native.Nat.{ℕ, _%_, _^_, _≤_, _<_}
 use mathlib.Core.Path.{_≡_, refl}
 use mathlib.Core.List.{[], _∷_}

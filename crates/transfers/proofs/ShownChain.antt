@@ -1,25 +1,25 @@
 -- Demand 3, second half, for the calls as they are: the shown chain's transfers are accepted and all applied, and end with different
 -- marks at the chain's end.
 use Prim.Native.Nat.{ℕ, _-_, _≤_, _<_}
-use native.Mathlib.Decide.{ℕ-discrete}
 use native.Mathlib.Omega.{arith}
-use mathlib.Core.Path.{_≡_, refl, sym, ap, _∙_}
+use mathlib.Core.Path.{_≡_, refl, ap, _∙_}
 use mathlib.Core.Bool.{false}
 use mathlib.Core.List.{List}
 use lib.ListN.{length}
 use Rattle.answers.specs.declared.Counts.{Counts}
-use Rattle.answers.specs.Call.{Refusal, firstRefusal, Outcome}
+use Rattle.answers.specs.Call.{firstRefusal}
 use Rattle.answers.specs.Sheet.{Lent, sheetOf, sheetIn, entities}
 use Rattle.theory.specs.Flow.{Flow}
 use Rattle.theory.specs.Chain.{Chain, Best}
 use Rattle.theory.proofs.Flows.{flow-inside}
 use Rattle.theory.proofs.Distinct.{distinct-fits}
 use Rattle.theory.proofs.Chains.{chain-flow, chain-inside, shortest-distinct}
+use Rattle.answers.proofs.Calls.{answered}
 use Rattle.access.specs.Channel.{Channel}
 use Rattle.access.proofs.Channels.{TwoSided, two-sided, channel-inside}
 use Rattle.access.proofs.Decided.{sheet-chain-exists}
 use Rattle.transfers.specs.declared.Tally.{Tally}
-use Rattle.transfers.specs.Rehearse.{Rehearsed, notRehearsed, rehearsed, Rehearses, recordRefusals}
+use Rattle.transfers.specs.Rehearse.{Rehearsed, rehearsed, Rehearses, recordRefusals}
 use Rattle.transfers.specs.Demand3.{chainTransfers, TwoLendings, AllApplied, Reached, RehearsesChain, RehearsesChainFlat, Ready}
 use Rattle.transfers.proofs.Determined.{one-list}
 use Rattle.transfers.proofs.Labels.{chainMoves}
@@ -45,15 +45,6 @@ module _ {c : Counts} {ch : ℕ → ℕ → Type 0} (sides : (a b : ℕ) → ch 
         all-counted = chain-applied chain;
         all-zero = rw (← chain-transfers-length c chain) (list-verdicts (chain-comes c sides chain) verdicts) ∙ chain-verdicts chain;
       }
-
--- a call that answers 0 refuses nothing
-accepted-passes : {refusals : List Refusal} {marks verdicts : List ℕ} {t : Tally} {Done : Rehearsed → Type 0} {r : Rehearsed} →
-    Outcome refusals (notRehearsed marks verdicts t) Done r → r .answer ≡ 0 → firstRefusal refusals ≡ 0
-accepted-passes {refusals} o e = go (ℕ-discrete (firstRefusal refusals) 0)
-  where
-    go : Dec (firstRefusal refusals ≡ 0) → firstRefusal refusals ≡ 0
-    go (yes none) = none
-    go (no some) = sym (ap (λ r. r .answer) (o .refusal some)) ∙ e
 
 module _ (l : Lent) {x y : ℕ} {chain : List ℕ} (best : Best (Channel (sheetIn l)) x y chain) where
   -- it has at most as many entities as the sheet
@@ -85,7 +76,7 @@ module _ (l : Lent) {x y : ℕ} {chain : List ℕ} (best : Best (Channel (sheetI
     -- "an accepted rehearsal of the shown chain's transfers ends .. with different marks at y"
     pub accepted-records-reach : r .answer ≡ 0 →
         RehearsesChain l chain marks verdicts t r → RehearsesChain l chain marks′ verdicts′ t r′ → Reached (length chain - 1) y r r′
-    accepted-records-reach e p q = passed-reach (accepted-passes p e) p q
+    accepted-records-reach e p q = passed-reach (answered (λ r. r .answer) (λ _. refl) p e) p q
 
     pub accepted-flat-reach : r .answer ≡ 0 →
         RehearsesChainFlat l chain marks verdicts t r → RehearsesChainFlat l chain marks′ verdicts′ t r′ → Reached (length chain - 1) y r r′

@@ -1,4 +1,4 @@
--- Texts as string literals, for examples.
+-- Texts that are printed in document 01, as string literals.
 use Prim.Native.Nat.{ℕ}
 use Prim.Native.Char.{code}
 use Prim.Native.String.{String, [], _∷_}
