@@ -154,7 +154,9 @@ fn main() {
     let count: usize = words.get(2).map_or(4000, |w| w.parse().unwrap());
     let r = &mut random;
     let order: Vec<usize> = (0..64).collect();
-    let mut all = vec![lend(&largest(), r), lend(&Sheet::blank(0, 0, 0), r), lend(&long_chain(&order[..48], &order), r)];
+    let mut longest = long_chain(&order[..48], &order);
+    longest.separations = vec![(48, 96)];
+    let mut all = vec![lend(&largest(), r), lend(&Sheet::blank(0, 0, 0), r), lend(&longest, r)];
     for i in 0..count {
         let mut t = if i % 20 == 0 { full(r) } else { small(r) };
         if r.one_in(3) {

@@ -1,6 +1,6 @@
 // Document 01 once more, written from its sentences alone, for the outside tests to compare with.
-// It shares nothing with the library: tables are vectors, flow is closed by Warshall's passes, the chain is built backwards
-// from distances, and a sheet's text is read by splitting it at line feeds.
+// It shares no code with the library: tables are vectors, flow is closed by Warshall's passes, and a sheet's text is read by splitting
+// it at line feeds. The least length of the program's output (OUTPUT) is a decision of the project's own.
 
 pub const ASSIGNMENT: usize = 2304;
 pub const PERMISSION: usize = 3072;

@@ -51,6 +51,10 @@ fn main() {
     let mut texts: Vec<Vec<u8>> = listed(&words[2]).into_iter().map(|(_, _, text)| text).collect();
     texts.push(largest().text());
     texts.push([largest().text(), b"0".to_vec()].concat());
+    let order: Vec<usize> = (0..64).collect();
+    let mut longest = long_chain(&order[..48], &order);
+    longest.separations = vec![(48, 96)];
+    texts.push(longest.text());
     for i in 0..count {
         let t = if i % 20 == 0 { full(r) } else { small(r) };
         texts.push(damaged(t.text(), r));

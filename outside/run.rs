@@ -1,6 +1,7 @@
 // The outside tests: cases from a seed and from a list of texts, run through the built program `drive` and compared with an
 // independent implementation. usage: run DRIVE TEXTS [SEED [COUNT]]. The last line is 'N passed, M failed'.
 mod cases;
+mod limits;
 mod oracle;
 mod sheets;
 
@@ -133,8 +134,8 @@ fn change_case(t: &Sheet, random: &mut Random) -> (Case, Sheet) {
     let mut after = t.clone();
     let assigns = random.one_in(2);
     let (rows, columns, values) = if assigns { (t.s, t.r, 2) } else { (t.r, t.o, 4) };
-    let (i, j, value) = (random.below(rows), random.below(columns), random.below(values));
-    if i < rows && j < columns {
+    let (i, j, value) = (random.below(rows), random.below(columns), random.below(values + 1));
+    if i < rows && j < columns && value < values {
         let table = if assigns { &mut after.assignment } else { &mut after.permission };
         table[i * columns + j] = value as u8;
     }
@@ -319,7 +320,7 @@ fn worked_points(random: &mut Random) -> Vec<Case> {
 // A faulty pair after a broken separation still refuses, and 64 separations that hold are all judged.
 fn judged_lists(random: &mut Random) -> Vec<Case> {
     let mut all = vec![];
-    for (pairs, answer) in [(vec![(0, 0), (0, 16)], 6), (vec![(0, 0), (0, 0)], 7), (vec![(1, 1), (0, 1)], 7), (vec![(0, 0), (16, 0), (0, 0)], 6)] {
+    for (pairs, answer) in [(vec![(0, 0), (0, 0), (200, 0)], 7), (vec![(0, 0), (0, 16)], 6), (vec![(0, 0), (0, 0)], 7), (vec![(1, 1), (0, 1)], 7), (vec![(0, 0), (16, 0), (0, 0)], 6)] {
         let mut t = Sheet::blank(8, 8, 1);
         t.separations = pairs;
         let c = judge_case(&t, random);
@@ -365,6 +366,12 @@ fn random_cases(seed: u64, count: usize) -> Vec<Case> {
     assert_eq!(t.chain(48, 96).unwrap().len(), 97);
     all.push(chain_case(&t, 48, 96, r));
     all.push(fill_case(&t, r));
+    let mut longest = t;
+    longest.separations = vec![(48, 96)];
+    let judged = judge_case(&longest, r);
+    assert_eq!(judged.expected().numbers[..3], [14, 0, 97]);
+    all.push(judged);
+    all.push(report_case(longest.text(), r));
     all.push(case(REFUSED_LINE, vec![u64::MAX], vec![b"ab\nc".to_vec(), vec![7; 9]]));
     all.push(case(REFUSED_LINE, vec![1], vec![vec![], vec![7; 9]]));
     all
@@ -409,10 +416,12 @@ fn main() {
         all.push(report_case(c.buffers[0].clone(), &mut random));
         all.push(c);
     }
+    all.extend(limits::exact_places());
     all.extend(random_cases(seed, count));
     for call in CALLS {
         let (accepted, cases) = all.iter().filter(|c| c.call == call).fold((0, 0), |(a, n), c| (a + (c.expected().numbers[0] == 0) as usize, n + 1));
         println!("call {call}: {cases} cases, {accepted} with answer 0");
+        assert!(accepted > 0, "call {call} is only refused");
     }
     let failed = failures(&words[1], &all);
     println!("{} passed, {} failed", all.len() - failed, failed);
