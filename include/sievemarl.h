@@ -8,7 +8,8 @@
  *
  * Duties of the caller, which nothing here can check: each pointer is valid for the length beside it, and a buffer that is written
  * overlaps no other. A null pointer with length 0 is a buffer that is too short. All else is checked: a wrong number, length or byte
- * gets its answer number, and then no buffer is changed.
+ * gets its answer number, and then no buffer is changed. The calls allocate nothing and keep nothing between them; each uses about
+ * 16 KB of stack for its tables.
  */
 #ifndef SIEVEMARL_H
 #define SIEVEMARL_H
