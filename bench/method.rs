@@ -378,16 +378,17 @@ fn store(k: &Passed, f: Frame, assignment: &mut [u8], permission: &mut [u8], sep
     }
 }
 
-pub fn read(text: &[u8], assignment: &mut [u8], permission: &mut [u8], separations: &mut [u8]) -> u32 {
+// What is known of the lines of a text that is read into the tables, or its refusal.
+fn read_lines(text: &[u8], assignment: &mut [u8], permission: &mut [u8], separations: &mut [u8]) -> Result<Passed, u8> {
     if assignment.len() < 2304 || permission.len() < 3072 || separations.len() < 128 {
-        return 1;
+        return Err(1);
     }
     if text.len() > 44240 {
-        return 5;
+        return Err(5);
     }
     let refusal = check_text(text);
     if refusal != 0 {
-        return refusal as u32;
+        return Err(refusal);
     }
     let mut k = Passed::default();
     let mut p = 0;
@@ -399,7 +400,11 @@ pub fn read(text: &[u8], assignment: &mut [u8], permission: &mut [u8], separatio
         }
         p = next;
     }
-    0
+    Ok(k)
+}
+
+pub fn read(text: &[u8], assignment: &mut [u8], permission: &mut [u8], separations: &mut [u8]) -> u32 {
+    read_lines(text, assignment, permission, separations).err().unwrap_or(0) as u32
 }
 
 // ---- writing
@@ -450,5 +455,41 @@ pub fn write(c: &Counts, assignment: &[u8], permission: &[u8], count: usize, sep
     }
     let lines = pen.lines;
     pen.line(&[5, (lines / 256) as u8, (lines % 256) as u8]);
+    pen.at
+}
+
+// ---- the whole output for an accepted sheet; a refused one is not benchmarked
+
+fn entity_line(n: usize, flow: &[u8], x: usize) -> [u8; 5] {
+    let flows = |a: usize, b: usize| flow[a * n + b] == 1;
+    let class = (0..x).find(|&z| flows(x, z) && flows(z, x)).unwrap_or(x);
+    let secret = (0..n).all(|y| y == x || !flows(x, y));
+    let integral = (0..n).all(|y| y == x || !flows(y, x));
+    let size = (0..n).filter(|&y| flows(y, x)).count();
+    [0x81, x as u8, class as u8, secret as u8 + 2 * integral as u8, size as u8]
+}
+
+pub fn report(text: &[u8], out: &mut [u8]) -> usize {
+    let (mut assignment, mut permission, mut separations) = ([0u8; 2304], [0u8; 3072], [0u8; 128]);
+    let Ok(k) = read_lines(text, &mut assignment, &mut permission, &mut separations) else { return 0 };
+    let c = Counts { subjects: k.subjects, objects: k.objects, roles: k.roles };
+    let n = c.subjects + c.objects;
+    let mut flow = [0u8; 12544];
+    fill_flow(&c, &assignment, &permission, &mut flow);
+    let mut pen = Pen { text: out, at: 0, lines: 0 };
+    for x in 0..n {
+        pen.line(&entity_line(n, &flow, x));
+    }
+    let mut chain = [0u8; 112];
+    let judged = judge(&c, &assignment, &permission, k.separations, &separations, &mut chain) as usize;
+    if judged == 0 {
+        pen.line(&[0x82, 0]);
+    } else {
+        let (position, count) = (judged / 256 % 256, judged / 65536);
+        let mut line = [0u8; 116];
+        line[..4].copy_from_slice(&[0x82, 1, position as u8, count as u8]);
+        line[4..4 + count].copy_from_slice(&chain[..count]);
+        pen.line(&line[..4 + count]);
+    }
     pen.at
 }

@@ -4,11 +4,11 @@ use mathlib.Core.Path.{_≡_, refl, subst}
 use mathlib.Core.Logic.{_⊎_, inl, inr, _≢_}
 use native.Mathlib.Decide.{ℕ-discrete}
 use native.Mathlib.Omega.{arith}
-use Rattle.answers.specs.declared.Counts.{Counts}
-use Rattle.answers.specs.Sheet.{entities, objectEntity}
+use Rattle.tables.specs.declared.Counts.{Counts}
+use Rattle.tables.specs.Sheet.{Lent, entities, objectEntity, sheetOf, sheetIn}
 use Rattle.theory.specs.Flow.{Flow, here, step}
 use Rattle.theory.proofs.Flows.{Has, Inside}
-use Rattle.access.specs.Channel.{read, write, Grants, May, ChannelOf, reads, writes}
+use Rattle.access.specs.Channel.{read, write, Grants, May, ChannelOf, reads, writes, Channel}
 
 -- the two entities are a subject and an object
 abbrev pub TwoSided : Counts → ℕ → ℕ → Type 0
@@ -99,3 +99,8 @@ module _ {c : Counts} {assigned : ℕ → ℕ → Type 0} {held held′ : ℕ �
   pub channel-without : Has (ChannelOf c assigned held′) (ChannelOf c assigned held)
   channel-without x y (reads o l e h m) = reads o l e h (may-without h m)
   channel-without x y (writes o l h e m) = writes o l h e (may-without h m)
+
+-- the channels of a sheet join entities below N only
+pub sheet-inside : (l : Lent) → Inside (entities (l .counts)) (Channel (sheetIn l))
+unfolding sheetOf
+sheet-inside l = channel-inside

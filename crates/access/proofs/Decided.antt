@@ -1,12 +1,11 @@
 -- Each pair of entities of a sheet has a channel or none; so flow is decided, and the chain exists exactly if there is flow.
 use Prim.Native.Nat.{ℕ, _-_, _≤_, _<_}
-use mathlib.Core.Path.{_≡_}
-use mathlib.Core.Logic.{inl, inr, Dec·and}
+use mathlib.Core.Logic.{_⊎_, inl, inr, Dec·and}
 use mathlib.Core.List.{List}
 use native.Mathlib.Decide.{ℕ-discrete, decLe, decLt, map-dec}
 use native.Mathlib.Omega.{arith}
-use Rattle.answers.specs.declared.Counts.{Counts}
-use Rattle.answers.specs.Sheet.{Sheet, entities}
+use Rattle.tables.specs.declared.Counts.{Counts}
+use Rattle.tables.specs.Sheet.{Sheet, entities}
 use Rattle.theory.specs.Flow.{Flow}
 use Rattle.theory.specs.Chain.{Best}
 use Rattle.theory.specs.Order.{Order, Compares}
@@ -58,21 +57,21 @@ module _ {c : Counts} {assigned : ℕ → ℕ → Type 0} {held : ℕ → ℕ �
         go (no h) = readable (omega arith) (Dec·and (decLt y (c .subjects)) (decLt x (entities c)))
 
 -- ---- a sheet
-pub has-decided : (m wanted : ℕ) → Dec (Has m wanted)
-has-decided m wanted = go (ℕ-discrete m wanted) (ℕ-discrete m 3)
+either-decided : {P Q : Type 0} → Dec P → Dec Q → Dec (P ⊎ Q)
+either-decided (yes p) d = yes (inl p)
+either-decided (no n) (yes q) = yes (inr q)
+either-decided {P} {Q} (no n) (no m) = no neither
   where
-    go : Dec (m ≡ wanted) → Dec (m ≡ 3) → Dec (Has m wanted)
-    go (yes e) d = yes (inl e)
-    go (no e) (yes f) = yes (inr f)
-    go (no e) (no f) = no (λ h. neither h)
-      where
-        neither : Has m wanted → ⊥
-        neither (inl p) = e p
-        neither (inr p) = f p
+    neither : P ⊎ Q → ⊥
+    neither (inl p) = n p
+    neither (inr q) = m q
+
+pub has-decided : (m wanted : ℕ) → Dec (Has m wanted)
+has-decided m wanted = either-decided (ℕ-discrete _ _) (ℕ-discrete _ _)
 
 module _ (t : Sheet) where
   pub sheet-channel-decided : (x y : ℕ) → Dec (Channel t x y)
-  sheet-channel-decided = channel-decided (λ s r. ℕ-discrete _ _) (λ r o m. has-decided _ m)
+  sheet-channel-decided = channel-decided (λ s r. ℕ-discrete _ _) (λ r o m. either-decided (ℕ-discrete _ _) (ℕ-discrete _ _))
 
   pub sheet-flow-decided : (x y : ℕ) → x < entities (t .counts) → Dec (Flow (Channel t) x y)
   sheet-flow-decided x y h = flow-decided channel-inside sheet-channel-decided y x h

@@ -6,19 +6,14 @@ use mathlib.Core.Logic.{inl, inr}
 use mathlib.Core.List.{[], _∷_}
 use native.Mathlib.Omega.{arith}
 use lib.Dec.{lit<}
-use Rattle.answers.specs.Sheet.{Sheet, counts}
+use Rattle.tables.specs.Sheet.{Sheet, sheet, counts}
 use Rattle.theory.specs.Flow.{Flow}
 use Rattle.access.specs.Channel.{read, write, Assigned, Plain, Grants, reads, writes, Channel}
 use Rattle.access.proofs.Channels.{carries}
 
 abbrev small : Sheet
 small =
-    record {
-      counts = counts 2 2 3;
-      assignment = 1 ∷ 1 ∷ 0 ∷ 0 ∷ 0 ∷ 0 ∷ [];
-      permission = 1 ∷ 0 ∷ 0 ∷ 2 ∷ 3 ∷ 3 ∷ [];
-      separations = [];
-    }
+    sheet (counts 2 2 3) (1 ∷ 1 ∷ 0 ∷ 0 ∷ 0 ∷ 0 ∷ []) (1 ∷ 0 ∷ 0 ∷ 2 ∷ 3 ∷ 3 ∷ []) []
 
 abbrev Granted : ℕ → ℕ → ℕ → ℕ → Type 0
 Granted = Grants (counts 2 2 3) (Assigned small) (Plain small)

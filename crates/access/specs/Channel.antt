@@ -3,8 +3,8 @@
 use Prim.Native.Nat.{ℕ, _<_}
 use mathlib.Core.Path.{_≡_}
 use mathlib.Core.Logic.{_⊎_}
-use Rattle.answers.specs.declared.Counts.{Counts}
-use Rattle.answers.specs.Sheet.{Sheet, objectEntity, assignedByte, modeByte}
+use Rattle.tables.specs.declared.Counts.{Counts}
+use Rattle.tables.specs.Sheet.{Sheet, objectEntity, assignedByte, modeByte}
 
 -- "(1 read, 2 write, 3 both)": read
 abbrev pub read : ℕ

@@ -1,3 +1,2 @@
 -- What a sheet permits, and its channels.
 pub mod Channel
-pub mod Inner

@@ -4,11 +4,14 @@
 use mathlib.Core.Path.{_≡_, refl, sym, subst, _∙_}
 use mathlib.Core.Logic.{⊎-elim}
 use mathlib.Core.Bool.{Bool, true, false, _||_, or-true, or-false, false≢true}
+use mathlib.Core.List.{List}
 use Prim.Native.Nat.{ℕ, zero, suc, _+_, _≤_, _<_}
 use native.Mathlib.Nat.{not-suc-le-zero, le-of-suc-le-suc, eq-or-lt-of-le, le-refl, le-antisymm}
 use native.Mathlib.Numerals.{add-one}
 use native.Mathlib.Omega.{arith}
-use Rattle.answers.specs.Rows.{anyBelow}
+use borrow.Author.Tests.{ltb-false, le-ltb}
+use lib.ListN.{getD}
+use Rattle.answers.specs.Rows.{anyBelow, someAbove}
 
 module _ (test : ℕ → Bool) where
   pub none-yet : anyBelow 0 test ≡ false
@@ -63,3 +66,10 @@ module _ (test : ℕ → Bool) where
   unfolding anyBelow
   all-fail zero each = refl
   all-fail (suc n) each = rw (all-fail n (λ k h. each k (omega arith)), each n (omega arith))
+
+-- ---- a byte above
+pub none-above : (bytes : List ℕ) (used most : ℕ) → someAbove bytes used most ≡ false → (k : ℕ) → k < used → getD bytes k 0 ≤ most
+none-above bytes used most e k h = ltb-false _ _ (none-of _ used e k h)
+
+pub all-within : (bytes : List ℕ) (used most : ℕ) → ((k : ℕ) → k < used → getD bytes k 0 ≤ most) → someAbove bytes used most ≡ false
+all-within bytes used most each = all-fail _ used (λ k h. le-ltb _ _ (each k h))

@@ -6,8 +6,10 @@ use mathlib.Core.Bool.{Bool, true, false, _&&_, cond}
 use mathlib.Core.List.{List, [], _∷_}
 use Prim.Native.Nat.{ℕ, zero, suc, _<_}
 use native.Mathlib.Nat.{suc-ne-zero}
+use native.Mathlib.Decide.{ℕ-discrete}
 use native.Mathlib.Omega.{arith}
-use lib.Dec.{T, ltb, lit<}
+use borrow.Author.Tests.{eq-eqb, ne-eqb}
+use lib.Dec.{T, ltb, eqb, lit<}
 use Rattle.answers.specs.Call.{Refusal, _if_, _then_, firstRefusal, Outcome}
 
 -- no refusal's test holds: the first one's does not, and neither do the others'
@@ -22,11 +24,11 @@ abbrev pub numbered : List Refusal → Bool
 numbered [] = true
 numbered (r ∷ rest) = ltb 0 (r .number) && numbered rest
 
-parts : (a b : Bool) → T (a && b) → T a × T b
+pub parts : (a b : Bool) → T (a && b) → T a × T b
 parts true b t = (tt, t)
 parts false b t = absurd t
 
-join : (a b : Bool) → T a → T b → T (a && b)
+pub join : (a b : Bool) → T a → T b → T (a && b)
 join true b p q = q
 join false b p q = absurd p
 
@@ -58,6 +60,21 @@ by-second (r ∷ l) m t e = go (r .number) (r .test) t e (by-second l m)
     go n true t e rest = absurd (let h : 0 < n = lit< (parts (ltb 0 n) (numbered l) t .0) in omega arith)
     go n false t e rest = rest (parts (ltb 0 n) (numbered l) t .1) e
 
+-- the same of the numbers k and n that functions answer for the two lists
+pub first-refuses : (l m : List Refusal) (k : ℕ) → k ≡ firstRefusal l → k ≢ 0 → k ≡ firstRefusal (l then m)
+first-refuses l m k e some = e ∙ sym (by-first l m (λ none. some (e ∙ none)))
+
+pub second-decides : (l m : List Refusal) (k n : ℕ) → T (numbered l) → k ≡ firstRefusal l → k ≡ 0 → n ≡ firstRefusal m → n ≡ firstRefusal (l then m)
+second-decides l m k n t e none f = f ∙ sym (by-second l m t (sym e ∙ none))
+
+-- both at once, as `first_of` has it
+pub by-both : (l m : List Refusal) → T (numbered l) → firstRefusal (l then m) ≡ cond (eqb (firstRefusal l) 0) (firstRefusal m) (firstRefusal l)
+by-both l m t = go (ℕ-discrete (firstRefusal l) 0)
+  where
+    go : Dec (firstRefusal l ≡ 0) → firstRefusal (l then m) ≡ cond (eqb (firstRefusal l) 0) (firstRefusal m) (firstRefusal l)
+    go (yes none) = rw (eq-eqb (firstRefusal l) 0 none) (by-second l m t none)
+    go (no some) = rw (ne-eqb (firstRefusal l) 0 some) (by-first l m some)
+
 -- two lists pass exactly if both do
 pub passed-then : (l m : List Refusal) → T (numbered l) → firstRefusal (l then m) ≡ 0 → (firstRefusal l ≡ 0) × (firstRefusal m ≡ 0)
 passed-then l m t e = go (firstRefusal l) refl
@@ -69,7 +86,11 @@ passed-then l m t e = go (firstRefusal l) refl
 pub pass-then : (l m : List Refusal) → T (numbered l) → firstRefusal l ≡ 0 → firstRefusal m ≡ 0 → firstRefusal (l then m) ≡ 0
 pass-then l m t e f = by-second l m t e ∙ f
 
--- a refusal whose test fails, in front of a list that passes
+-- a list with none left, and a refusal whose test fails in front of a list that passes
+pub none-left : firstRefusal [] ≡ 0
+unfolding firstRefusal
+none-left = refl
+
 pub pass : (n : ℕ) (t : Bool) (rest : List Refusal) → t ≡ false → firstRefusal rest ≡ 0 → firstRefusal ((n if t) ∷ rest) ≡ 0
 unfolding firstRefusal
 pass n t rest e f = rw e f

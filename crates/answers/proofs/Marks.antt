@@ -33,6 +33,14 @@ pub mark-of : {P : Type 0} {b : ℕ} → Mark P b → P → b ≡ 1
 mark-of (one e p) q = e
 mark-of (none e p) q = absurd (p q)
 
+-- a mark that is tested for the other value
+pub marked-unless : {P : Type 0} {b : ℕ} → Mark P b → (b ≡ 1 → ⊥) → P → ⊥
+marked-unless m other p = other (mark-of m p)
+
+pub marked-other : {P : Type 0} {b : ℕ} → Mark P b → (b ≡ 0 → ⊥) → P
+marked-other (one e p) other = p
+marked-other (none e p) other = absurd (other e)
+
 -- a statement that is marked holds or does not
 pub mark-decides : {P : Type 0} {b : ℕ} → Mark P b → Dec P
 mark-decides (one e p) = yes p

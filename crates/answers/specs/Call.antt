@@ -4,6 +4,8 @@ use mathlib.Core.Logic.{_≢_}
 use mathlib.Core.Bool.{Bool, cond}
 use mathlib.Core.List.{List, [], _∷_, _++_}
 use Prim.Native.Nat.{ℕ, zero, suc}
+use denote.Ref.{RefT}
+use denote.Triple.Both.{Both}
 use Rattle.answers.specs.declared.Told.{Told}
 
 -- "no. | when": an answer number, and the test under which a call answers it
@@ -41,6 +43,10 @@ pub record Outcome {R : Type 0} (refusals : List Refusal) (refused : ℕ → R) 
 -- an answer number and its one value: "Every other number in its answer .. is 0; so is a number with nothing to tell"
 abbrev pub told : ℕ → ℕ → Told
 told n v = record { answer = n; value = v }
+
+-- what a contract knows of what is lent: the reference at entry and at exit
+abbrev pub Loan : Type 0 → Type 0
+Loan X = Both (RefT X) (RefT X)
 
 -- a refusal of a call that writes one buffer
 abbrev pub left : List ℕ → ℕ → ℕ × List ℕ

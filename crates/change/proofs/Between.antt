@@ -2,48 +2,25 @@
 use Prim.Native.Nat.{ℕ, _<_}
 use mathlib.Core.Path.{_≡_, refl, ap}
 use mathlib.Core.Logic.{_⊎_, _≢_}
-use mathlib.Core.Bool.{false}
 use mathlib.Core.List.{List}
 use native.Mathlib.Nat.{le-refl}
 use native.Mathlib.Omega.{arith}
 use lib.ListN.{length, getD, drop, List·getD-append}
 use Rattle.answers.specs.Call.{firstRefusal}
 use Rattle.answers.specs.Rows.{Bytes, over}
-use Rattle.answers.specs.Sheet.{Lent, lent, sheetOf, sheetIn, entities, assignedByte, modeByte}
-use Rattle.answers.specs.Refusals.{sheetRefusals}
+use Rattle.tables.specs.Sheet.{Lent, lent, sheetOf, sheetIn, entities, assignedByte, modeByte}
+use Rattle.tables.specs.Refusals.{noOther, noList, sheetRefusals}
 use Rattle.answers.proofs.Calls.{answered, passed-then}
-use Rattle.answers.proofs.Accepted.{sheet-numbered}
+use Rattle.tables.proofs.Accepted.{sheet-numbered}
 use Rattle.theory.specs.Flow.{Flow}
 use Rattle.theory.specs.Effect.{Effect}
 use Rattle.theory.proofs.Effects.{adding-loses-nothing, taking-gains-nothing}
 use Rattle.access.specs.Channel.{Channel}
 use Rattle.flow.specs.Fill.{Fills, FlowFilled}
-use Rattle.flow.specs.Effects.{Affects}
+use Rattle.effects.specs.Effects.{Affects}
 use Rattle.flow.proofs.Filled.{filled-agrees, tables-effect}
-use Rattle.change.specs.Change.{
-  assignmentPlace,
-  permissionPlace,
-  withAssignment,
-  withPermission,
-  AssignmentAdds,
-  AssignmentTakes,
-  PermissionAdds,
-  PermissionTakes,
-  setAssignmentRefusals,
-  setPermissionRefusals,
-  SetsAssignment,
-  SetsPermission,
-  Between,
-}
-use Rattle.change.specs.Inner.{rangeRefusals}
-use Rattle.change.proofs.Changes.{
-  assignment-adds,
-  assignment-takes,
-  permission-adds,
-  permission-takes,
-  sheet-with-assignment,
-  sheet-with-permission,
-}
+use Rattle.change.specs.Change.{withAssignment, withPermission, AssignmentAdds, AssignmentTakes, PermissionAdds, PermissionTakes, rangeRefusals, setAssignmentRefusals, setPermissionRefusals, SetsAssignment, SetsPermission, Between}
+use Rattle.change.proofs.Changes.{assignment-adds, assignment-takes, permission-adds, permission-takes, sheet-with-assignment, sheet-with-permission}
 use Rattle.change.proofs.Turning.{assignment-never-both, permission-never-both}
 use Rattle.change.proofs.Placed.{in-table, column-below}
 
@@ -74,7 +51,7 @@ module _ (l : Lent) (s r value : ℕ) (assignment : List ℕ) (call : SetsAssign
   unfolding setAssignmentRefusals rangeRefusals
   changed-assignment =
       let none = answered (λ r. r .0) (λ _. refl) call refl in
-      let own = passed-then (sheetRefusals false false l) _ (sheet-numbered false false l) none .1 in
+      let own = passed-then (sheetRefusals noOther noList l) _ (sheet-numbered noOther noList l) none .1 in
       let place = in-table (l .counts .subjects) (l .counts .roles) 1 s r value _ _ _ (le-refl _) (le-refl _) (le-refl _) own in
       rw (ap (λ (p : ℕ × List ℕ). p .1) (call .done none)) (sheet-with-assignment (l .counts) (l .assignment) (l .permission) s r value place)
 
@@ -95,7 +72,7 @@ module _ (l : Lent) (s r value : ℕ) (assignment : List ℕ) (call : SetsAssign
 module _ (l : Lent) (r o mode : ℕ) (permission : List ℕ) (call : SetsPermission l r o mode (0, permission)) where
   unrefused : firstRefusal (rangeRefusals (l .counts .roles) (l .counts .objects) 3 r o mode) ≡ 0
   unfolding setPermissionRefusals rangeRefusals
-  unrefused = passed-then (sheetRefusals false false l) _ (sheet-numbered false false l) (answered (λ r. r .0) (λ _. refl) call refl) .1
+  unrefused = passed-then (sheetRefusals noOther noList l) _ (sheet-numbered noOther noList l) (answered (λ r. r .0) (λ _. refl) call refl) .1
 
   pub changed-permission : sheetIn (lent (l .counts) (l .assignment) permission) ≡ withPermission (sheetIn l) r o mode
   changed-permission =

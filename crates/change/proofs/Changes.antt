@@ -6,21 +6,12 @@ use native.Mathlib.Decide.{ℕ-discrete, decLt}
 use native.Mathlib.Omega.{arith}
 use lib.ListN.{length, getD, set, take}
 use lib.Seq.{set-out, getD-set-same, getD-set-other, take-set-lt}
-use Rattle.answers.specs.declared.Counts.{Counts}
-use Rattle.answers.specs.Sheet.{lent, Sheet, sheetIn, sheetOf, assignedByte, modeByte}
+use Rattle.tables.specs.declared.Counts.{Counts}
+use Rattle.tables.specs.Sheet.{sheet, lent, Sheet, sheetIn, sheetOf, assignedByte, modeByte}
 use Rattle.theory.proofs.Flows.{Has}
 use Rattle.access.specs.Channel.{read, write, Has as Mode, Channel}
 use Rattle.access.proofs.Channels.{channel-more}
-use Rattle.change.specs.Change.{
-  assignmentPlace,
-  permissionPlace,
-  withAssignment,
-  withPermission,
-  AssignmentAdds,
-  PermissionAdds,
-  AssignmentTakes,
-  PermissionTakes,
-}
+use Rattle.change.specs.Change.{assignmentPlace, permissionPlace, withAssignment, withPermission, AssignmentAdds, PermissionAdds, AssignmentTakes, PermissionTakes}
 
 -- what held of each byte holds after one is set, if the new one has it of the old
 pub set-keeps : (P : ℕ → Type 0) (l : List ℕ) (i v : ℕ) → (P (getD l i 0) → P v) → (k : ℕ) → P (getD l k 0) → P (getD (set l i v) k 0)
@@ -72,10 +63,10 @@ module _ (c : Counts) (assignment permission : List ℕ) where
       sheetIn (lent c (set assignment (assignmentPlace c s r) value) permission) ≡ withAssignment (sheetIn (lent c assignment permission)) s r value
   unfolding sheetOf withAssignment
   sheet-with-assignment s r value h =
-      ap (λ (a : List ℕ). record { counts = c; assignment = a; permission = take (c .roles * c .objects) permission; separations = [] }) (take-set-lt _ assignment _ value h)
+      ap (λ (a : List ℕ). sheet c a (take (c .roles * c .objects) permission) []) (take-set-lt _ assignment _ value h)
 
   pub sheet-with-permission : (r o mode : ℕ) → permissionPlace c r o < c .roles * c .objects →
       sheetIn (lent c assignment (set permission (permissionPlace c r o) mode)) ≡ withPermission (sheetIn (lent c assignment permission)) r o mode
   unfolding sheetOf withPermission
   sheet-with-permission r o mode h =
-      ap (λ (p : List ℕ). record { counts = c; assignment = take (c .subjects * c .roles) assignment; permission = p; separations = [] }) (take-set-lt _ permission _ mode h)
+      ap (λ (p : List ℕ). sheet c (take (c .subjects * c .roles) assignment) p []) (take-set-lt _ permission _ mode h)

@@ -2,7 +2,7 @@
 use mathlib.Core.Path.{_≡_, sym, _∙_}
 use mathlib.Core.List.{List}
 use Prim.Native.Nat.{ℕ}
-use Rattle.answers.specs.Sheet.{Lent}
+use Rattle.tables.specs.Sheet.{Lent}
 use Rattle.answers.proofs.Calls.{determined}
 use Rattle.change.specs.Change.{SetsAssignment, SetsPermission}
 

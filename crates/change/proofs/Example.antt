@@ -7,15 +7,15 @@ use native.Mathlib.Omega.{arith}
 use lib.ListN.{replicate}
 use Rattle.answers.specs.Call.{firstRefusal, _then_}
 use Rattle.answers.specs.Rows.{anyBelow}
-use Rattle.answers.specs.Sheet.{Lent, lent, Sheet, counts}
-use Rattle.answers.specs.Refusals.{sheetRefusals}
+use Rattle.tables.specs.Sheet.{sheet, Lent, lent, Sheet, counts}
+use Rattle.tables.specs.Refusals.{sizeRefusals, usedRefusals, sheetRefusals}
 use Rattle.theory.proofs.Flows.{Has}
 use Rattle.access.specs.Channel.{Channel}
-use Rattle.change.specs.Change.{withAssignment, withPermission, PermissionAdds, setAssignmentRefusals, setPermissionRefusals}
+use Rattle.change.specs.Change.{withAssignment, withPermission, PermissionAdds, rangeRefusals, setAssignmentRefusals, setPermissionRefusals}
 use Rattle.change.proofs.Changes.{permission-adds, assignment-takes}
 
 abbrev reader : Sheet
-reader = record { counts = counts 1 2 1; assignment = 1 ∷ []; permission = 1 ∷ 0 ∷ []; separations = [] }
+reader = sheet (counts 1 2 1) (1 ∷ []) (1 ∷ 0 ∷ []) []
 
 -- one byte is set and no other
 one-byte : (withPermission reader 0 0 2 .permission ≡ 2 ∷ 0 ∷ []) × (withPermission reader 0 1 3 .permission ≡ 1 ∷ 3 ∷ [])
@@ -55,7 +55,7 @@ record SixLast : Type 0 where
   mode-3 : firstRefusal (setPermissionRefusals (tables 1) 0 1 3) ≡ 0
 
 six-last : SixLast
-unfolding firstRefusal _then_ anyBelow sheetRefusals setAssignmentRefusals setPermissionRefusals tables
+unfolding firstRefusal _then_ anyBelow sheetRefusals sizeRefusals usedRefusals rangeRefusals setAssignmentRefusals setPermissionRefusals tables
 six-last =
     record {
       subject-outside = refl;

@@ -7,7 +7,7 @@ use native.Mathlib.Decide.{ℕ-discrete}
 use native.Mathlib.Omega.{arith}
 use lib.Arith.{digits-mod}
 use lib.Seq.{getD-set-other}
-use Rattle.answers.specs.Sheet.{Sheet, objectEntity, assignedByte, modeByte}
+use Rattle.tables.specs.Sheet.{Sheet, objectEntity, assignedByte, modeByte}
 use Rattle.theory.specs.Flow.{Flow}
 use Rattle.theory.specs.Effect.{Effect}
 use Rattle.theory.proofs.Effects.{Turned, adding-loses-nothing, taking-gains-nothing, turning-never-both, turning-back-never-both}

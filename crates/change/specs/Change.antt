@@ -1,17 +1,16 @@
 -- "A change sets one assignment byte or one permission byte of the lent tables and no other."
 use Prim.Native.Nat.{ℕ, _+_, _*_}
 use mathlib.Core.Path.{_≡_}
-use mathlib.Core.Bool.{false}
 use mathlib.Core.List.{List, [], _∷_}
 use lib.Dec.{leb, ltb}
 use lib.ListN.{set}
-use Rattle.answers.specs.declared.Counts.{Counts}
+use Rattle.tables.specs.declared.Counts.{Counts}
 use Rattle.answers.specs.Call.{Refusal, _if_, _then_, Outcome, left}
-use Rattle.answers.specs.Sheet.{Lent, Sheet, entities}
-use Rattle.answers.specs.Refusals.{sheetRefusals}
+use Rattle.tables.specs.Sheet.{Lent, Sheet, sheet, entities}
+use Rattle.tables.specs.Refusals.{noOther, noList, sheetRefusals}
 use Rattle.access.specs.Channel.{read, write, Has}
 use Rattle.flow.specs.Fill.{Fills}
-use Rattle.flow.specs.Effects.{Affects}
+use Rattle.effects.specs.Effects.{Affects}
 
 -- the place of an assignment byte, "at s x R + r"
 abbrev pub assignmentPlace : Counts → ℕ → ℕ → ℕ
@@ -24,22 +23,12 @@ permissionPlace c r o = r * c .objects + o
 -- ---- a changed sheet: "A change sets one assignment byte"
 unfoldable pub withAssignment : Sheet → ℕ → ℕ → ℕ → Sheet
 withAssignment t s r value =
-    record {
-      counts = t .counts;
-      assignment = set (t .assignment) (assignmentPlace (t .counts) s r) value;
-      permission = t .permission;
-      separations = t .separations;
-    }
+    sheet (t .counts) (set (t .assignment) (assignmentPlace (t .counts) s r) value) (t .permission) (t .separations)
 
 -- "or one permission byte"
 unfoldable pub withPermission : Sheet → ℕ → ℕ → ℕ → Sheet
 withPermission t r o mode =
-    record {
-      counts = t .counts;
-      assignment = t .assignment;
-      permission = set (t .permission) (permissionPlace (t .counts) r o) mode;
-      separations = t .separations;
-    }
+    sheet (t .counts) (t .assignment) (set (t .permission) (permissionPlace (t .counts) r o) mode) (t .separations)
 
 -- "a change that only adds permission or assignment": the new byte has the assignment of the old
 abbrev pub AssignmentAdds : (old new : ℕ) → Type 0
@@ -59,17 +48,19 @@ abbrev pub PermissionTakes : (old new : ℕ) → Type 0
 PermissionTakes old new = PermissionAdds new old
 
 -- ---- the calls
--- "A single change puts 6 last": "a subject, role, object .. is not below its count, or a mode or value is out of range"
+-- "6 | a subject, role, object .. is not below its count, or a mode or value is out of range": of a byte in row i at place j of a table
+unfoldable pub rangeRefusals : (rows columns most i j value : ℕ) → List Refusal
+rangeRefusals rows columns most i j value = (6 if leb rows i) ∷ (6 if leb columns j) ∷ (6 if ltb most value) ∷ []
+
+-- "A single change puts 6 last"; "assignment, S x R bytes, 0 or 1"
 unfoldable pub setAssignmentRefusals : Lent → ℕ → ℕ → ℕ → List Refusal
 setAssignmentRefusals l s r value =
-    sheetRefusals false false l
-    then ((6 if leb (l .counts .subjects) s) ∷ (6 if leb (l .counts .roles) r) ∷ (6 if ltb 1 value) ∷ [])
+    sheetRefusals noOther noList l then rangeRefusals (l .counts .subjects) (l .counts .roles) 1 s r value
 
--- the same of a role, an object and a mode; a mode of 0 takes away
+-- "permission, R x O bytes, 0 to 3"; a mode of 0 takes away
 unfoldable pub setPermissionRefusals : Lent → ℕ → ℕ → ℕ → List Refusal
 setPermissionRefusals l r o mode =
-    sheetRefusals false false l
-    then ((6 if leb (l .counts .roles) r) ∷ (6 if leb (l .counts .objects) o) ∷ (6 if ltb 3 mode) ∷ [])
+    sheetRefusals noOther noList l then rangeRefusals (l .counts .roles) (l .counts .objects) 3 r o mode
 
 -- the contract of `set_assignment`: the answer, and the assignment table afterwards
 abbrev pub SetsAssignment : Lent → ℕ → ℕ → ℕ → ℕ × List ℕ → Type 0

@@ -1,9 +1,10 @@
--- What both changes refuse after the shared list. No promise: it only ties functions together.
+-- What both changes refuse, by the table that the byte stands in. No promise: it only ties functions together.
 use Prim.Native.Nat.{ℕ}
-use mathlib.Core.List.{List, [], _∷_}
-use lib.Dec.{leb, ltb}
-use Rattle.answers.specs.Call.{Refusal, _if_}
+use mathlib.Core.List.{List}
+use Rattle.answers.specs.Call.{Refusal, _then_}
+use Rattle.tables.specs.Sheet.{Lent}
+use Rattle.tables.specs.Refusals.{noOther, noList, sheetRefusals}
+use Rattle.change.specs.Change.{rangeRefusals}
 
--- 6 of a byte in row i at place j of a table
-unfoldable pub rangeRefusals : (rows columns most i j value : ℕ) → List Refusal
-rangeRefusals rows columns most i j value = (6 if leb rows i) ∷ (6 if leb columns j) ∷ (6 if ltb most value) ∷ []
+unfoldable pub changeRefusals : Lent → (rows columns most i j value : ℕ) → List Refusal
+changeRefusals l rows columns most i j value = sheetRefusals noOther noList l then rangeRefusals rows columns most i j value

@@ -1,7 +1,6 @@
 -- What functions that read or write a text tell each other. No promise: it only ties functions together.
-use Prim.Native.Nat.{ℕ, _+_, _*_, _≤_, _<_}
+use Prim.Native.Nat.{ℕ, _+_, _*_, _<_}
 use mathlib.Core.Path.{_≡_}
-use mathlib.Core.Logic.{_≢_}
 use mathlib.Core.Bool.{true, cond}
 use mathlib.Core.List.{List}
 use lib.ListN.{length, getD}
@@ -9,7 +8,6 @@ use lib.Seq.{sets}
 use Rattle.digits.specs.declared.Digit.{Digit}
 use Rattle.digits.specs.declared.Digit.the-variants.{Value, NotDigit}
 use Rattle.digits.specs.Digit.{isDigit, digitValue}
-use Rattle.digits.specs.Line.{feed}
 
 -- a byte of the text, read as a digit
 unfoldable pub digitOf : ℕ → Digit
@@ -24,13 +22,6 @@ pub record DigitsAt (line : List ℕ) (i : ℕ) : Type 0 where
 -- the byte that they stand for
 unfoldable pub byteAt : List ℕ → ℕ → ℕ
 byteAt line i = digitValue (getD line i 0) * 16 + digitValue (getD line (i + 1) 0)
-
--- the line that starts at p ends at e: before the first line feed from there, or at the text's end
-pub record EndsAt (text : List ℕ) (p e : ℕ) : Type 0 where
-  pub after : p ≤ e
-  pub within : e ≤ length text
-  pub none : (i : ℕ) → p ≤ i → i < e → getD text i 0 ≢ feed
-  pub fed : e < length text → getD text e 0 ≡ feed
 
 -- bytes are written at a place of the text, and the next place is past them
 pub record Put (bytes : List ℕ) (at : ℕ) (before : List ℕ) (next : ℕ) (after : List ℕ) : Type 0 where

@@ -39,18 +39,18 @@ use denote.Triple.Clauses.{Clauses, Ended, closing, ensured, lasts, atExit}
 use denote.Triple.Walked.{Stays, stay-dropped, gave-slice, walkOf, AllGo, goes-dropped, goes-gave-slice, Walks, ends-at, walked, walk-meets}
 use denote.Exit.{yes}
 use borrow.Table.OneValue.{part-in, part-out}
-use Rattle.answers.specs.declared.Counts.{Counts}
+use Rattle.tables.specs.declared.Counts.{Counts}
 use Rattle.answers.specs.declared.Told.{Told}
 use Rattle.transfers.specs.declared.Tally.{Tally}
-use Rattle.transfers.specs.declared.Tallied.{Tallied}
-use Rattle.answers.proofs.Counts as C
-use Rattle.answers.proofs.Counts.Laws as C′
+use Rattle.runs.specs.declared.Tallied.{Tallied}
+use Rattle.tables.proofs.Counts as C
+use Rattle.tables.proofs.Counts.Laws as C′
 use Rattle.answers.proofs.Told as N
 use Rattle.answers.proofs.Told.Laws as N′
 use Rattle.transfers.proofs.Tally as A
 use Rattle.transfers.proofs.Tally.Laws as A′
-use Rattle.transfers.proofs.Tallied as O
-use Rattle.transfers.proofs.Tallied.Laws as O′
+use Rattle.runs.proofs.Tallied as O
+use Rattle.runs.proofs.Tallied.Laws as O′
 
 -- the two signatures, by the type of the list's elements
 abbrev byValue : RattleType → Ended

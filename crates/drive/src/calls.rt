@@ -1,8 +1,8 @@
 // The public calls, each on the numbers and buffers of a case.
 use crate::form;
 use crate::form::Numbers;
-use answers::Counts;
 use answers::Told;
+use tables::Counts;
 
 fn two(first: usize, second: usize) -> Numbers {
     three(first, second, 0)
@@ -97,13 +97,13 @@ fn compare(head: &[u8], table: &[u8]) -> Numbers {
     let n = form::argument(head, 0);
     let x = form::argument(head, 1);
     let y = form::argument(head, 2);
-    let r = flow::compare(n, table, x, y);
+    let r = questions::compare(n, table, x, y);
     match r {
-        flow::Compared::Equal => two(0, 1),
-        flow::Compared::Below => two(0, 2),
-        flow::Compared::Above => two(0, 3),
-        flow::Compared::Incomparable => two(0, 4),
-        flow::Compared::Refused(n) => two(n as usize, 0),
+        questions::Compared::Equal => two(0, 1),
+        questions::Compared::Below => two(0, 2),
+        questions::Compared::Above => two(0, 3),
+        questions::Compared::Incomparable => two(0, 4),
+        questions::Compared::Refused(n) => two(n as usize, 0),
     }
 }
 
@@ -113,25 +113,25 @@ fn question(call: u8, head: &[u8], table: &[u8], label: &mut [u8]) -> Numbers {
     let x = form::argument(head, 1);
     let y = form::argument(head, 2);
     if call == 5 {
-        return told(flow::flows(n, table, x, y));
+        return told(questions::flows(n, table, x, y));
     }
     if call == 6 {
-        return told(flow::label(n, table, x, label));
+        return told(questions::label(n, table, x, label));
     }
     if call == 7 {
-        return told(flow::class_name(n, table, x));
+        return told(questions::class_name(n, table, x));
     }
     if call == 8 {
         return compare(head, table);
     }
-    told(flow::greatest(n, table, x))
+    told(questions::greatest(n, table, x))
 }
 
 fn chosen_row<'a>(head: &[u8], before: &'a [u8], after: &'a [u8], to: &mut [u8]) -> Numbers {
     let n = form::argument(head, 0);
     let choice = form::argument(head, 1);
     let x = form::argument(head, 2);
-    let part = flow::chosen_row(before, after, n, choice, x);
+    let part = effects::chosen_row(before, after, n, choice, x);
     form::copy(part, to);
     two(part.len(), 0)
 }
@@ -142,7 +142,7 @@ pub fn of_flow(call: u8, head: &[u8], a: &mut [u8], b: &mut [u8], c: &mut [u8]) 
         return fill(head, a, b, c);
     }
     if call == 10 {
-        let answer = flow::effect(form::argument(head, 0), a, b, c);
+        let answer = effects::effect(form::argument(head, 0), a, b, c);
         return two(answer as usize, 0);
     }
     if call == 11 {

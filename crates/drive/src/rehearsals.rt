@@ -2,8 +2,8 @@
 use crate::calls;
 use crate::form;
 use crate::form::Numbers;
-use answers::Counts;
-use transfers::Tallied;
+use runs::Tallied;
+use tables::Counts;
 use transfers::Tally;
 use transfers::Transfer;
 ghost use Prim.Native.Nat.{_≤_, _<_};

@@ -9,16 +9,18 @@ use lib.ListN.{length}
 use Rattle.answers.specs.Call.{firstRefusal}
 use Rattle.answers.specs.Rows.{Bytes, Filled, shorter}
 use Rattle.answers.specs.Sizes.{leastFlow}
-use Rattle.answers.specs.Sheet.{Lent, sheetIn, sheetOf, entities}
-use Rattle.answers.specs.Refusals.{sheetRefusals}
+use Rattle.tables.specs.Sheet.{Lent, sheetIn, sheetOf, entities}
+use Rattle.tables.specs.Refusals.{sheetRefusals}
 use Rattle.answers.proofs.Calls.{refuse, accept}
-use Rattle.answers.proofs.Accepted.{tables-passed}
+use Rattle.tables.proofs.Accepted.{tables-passed}
 use Rattle.answers.proofs.Products.{product-within}
-use Rattle.graph.specs.Written.{FlowTable}
-use Rattle.graph.proofs.Relations.{bytes-to, bytes-from, table-agrees}
+use Rattle.rows.specs.Written.{FlowTable}
+use Rattle.theory.proofs.Filled.{bytes-to, bytes-from}
+use Rattle.rows.proofs.Relations.{table-agrees}
 use Rattle.access.specs.Channel.{Channel}
-use Rattle.access.specs.Inner.{Fillable}
-use Rattle.access.proofs.Filling.{sheet-inside, entities-fit}
+use Rattle.channels.specs.Inner.{Fillable}
+use Rattle.access.proofs.Channels.{sheet-inside}
+use Rattle.tables.proofs.Sounds.{entities-fit}
 use Rattle.flow.specs.Fill.{FlowFilled, fillRefusals, Fills}
 
 -- what the engine wrote for the bytes of the channel table holds of the sheet's channels

@@ -1,40 +1,20 @@
 -- The table that filling wrote: its bytes are the sheet's flows, so the questions on it are those of the sheet's flow.
-use Prim.Native.Nat.{ℕ, _+_, _*_, _<_}
-use mathlib.Core.Path.{_≡_, sym, _∙_}
+use Prim.Native.Nat.{ℕ, _<_}
 use mathlib.Core.List.{List}
-use native.Mathlib.Omega.{arith}
-use lib.ListN.{length, drop, List·getD-append}
-use Rattle.answers.specs.Rows.{Bytes, at, Marked, over}
-use Rattle.answers.specs.Sheet.{Sheet, entities}
-use Rattle.answers.proofs.Marks.{mark-of, marked-yes}
-use Rattle.answers.proofs.Products.{place-below}
+use Rattle.answers.specs.Rows.{Bytes}
+use Rattle.tables.specs.Sheet.{Sheet, entities}
 use Rattle.theory.specs.Flow.{Flow, here}
 use Rattle.theory.specs.Order.{Included, ClassName}
 use Rattle.theory.specs.Effect.{Effect}
 use Rattle.theory.specs.Laws.{Agree, EqualAnswers, OneClass}
+use Rattle.theory.proofs.Filled.{bytes-agree}
 use Rattle.theory.proofs.Flows.{flow-reflexive, flow-transitive}
 use Rattle.theory.proofs.Orders.{agree-turned, equal-answers, label-of-flow, class-named-once, named-class}
 use Rattle.theory.proofs.Effects.{effect-agrees}
 use Rattle.flow.specs.Fill.{SheetFlow, FlowFilled}
 
--- the bytes of a table are those of the buffer that it stands in front of
-byte-in-front : (n : ℕ) (table buffer : List ℕ) (x y : ℕ) → length table ≡ n * n → x < n → y < n → at (over table buffer) n x y ≡ at table n x y
-unfolding over
-byte-in-front n table buffer x y e hx hy =
-    List·getD-append table (drop (length table) buffer) 0 (x * n + y) (place-below x y n n (length table) hx hy (omega arith))
-
--- a table that marks a relation gives that relation by its bytes
-module _ {n : ℕ} {R : ℕ → ℕ → Type 0} {table : List ℕ} (m : Marked n R table) (buffer : List ℕ) where
-  pub marked-agrees : Agree n R (Bytes n (over table buffer))
-  marked-agrees =
-      record {
-        there = λ x y hx hy r.
-            record { source = hx; target = hy; byte = byte-in-front n table buffer x y (m .size) hx hy ∙ mark-of (m .bytes x y hx hy) r };
-        back = λ x y hx hy b. marked-yes (m .bytes x y hx hy) (sym (byte-in-front n table buffer x y (m .size) hx hy) ∙ b .byte);
-      }
-
 pub filled-agrees : (t : Sheet) (before after : List ℕ) → FlowFilled t before after → Agree (entities (t .counts)) (SheetFlow t) (Bytes (entities (t .counts)) after)
-filled-agrees t before after f = rw (f .written) (marked-agrees (f .marked) before)
+filled-agrees t before after f = bytes-agree f
 
 -- label, class, compare and greatest are those of the sheet's flow
 pub filled-answers : (t : Sheet) (before after : List ℕ) → FlowFilled t before after → (x y : ℕ) → x < entities (t .counts) → y < entities (t .counts) →

@@ -1,11 +1,6 @@
--- Laws of the flow table and of the questions on one.
-pub mod Filled
-pub mod Judged
-pub mod Refusing
-pub mod Answering
-pub mod Outcomes
-pub mod Unrefused
-pub mod Chosen
+-- Laws of the flow table of a sheet.
 pub mod Closing
+pub mod Filled
+pub mod Unrefused
 pub mod Determined
 pub mod Examples

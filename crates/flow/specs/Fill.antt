@@ -1,13 +1,12 @@
 -- `fill`: the flow table of a sheet.
 use Prim.Native.Nat.{ℕ}
 use mathlib.Core.Path.{_≡_}
-use mathlib.Core.Bool.{false}
 use mathlib.Core.List.{List}
 use Rattle.answers.specs.Sizes.{leastFlow}
 use Rattle.answers.specs.Call.{Refusal, Outcome, left}
 use Rattle.answers.specs.Rows.{Filled, shorter}
-use Rattle.answers.specs.Sheet.{Lent, Sheet, sheetIn, entities}
-use Rattle.answers.specs.Refusals.{sheetRefusals}
+use Rattle.tables.specs.Sheet.{Lent, Sheet, sheetIn, entities}
+use Rattle.tables.specs.Refusals.{noList, sheetRefusals}
 use Rattle.theory.specs.Flow.{Flow}
 use Rattle.access.specs.Channel.{Channel}
 
@@ -17,7 +16,7 @@ SheetFlow t = Flow (Channel t)
 
 -- "Order for every call on tables: 1, 5, 11"
 unfoldable pub fillRefusals : Lent → List ℕ → List Refusal
-fillRefusals l flow = sheetRefusals (shorter flow leastFlow) false l
+fillRefusals l flow = sheetRefusals (shorter flow leastFlow) noList l
 
 -- "flow, N x N bytes, 0 or 1, at x x N + y": the flow table of a sheet, in a buffer
 abbrev pub FlowFilled : Sheet → List ℕ → List ℕ → Type 0

@@ -1,5 +1,5 @@
 -- One step of the check: what a line that passes has passed, how the check goes on, and that a text that passes is one of frames.
-use Prim.Native.Nat.{ℕ, zero, suc, _+_, _<_}
+use Prim.Native.Nat.{ℕ, zero, suc, _+_, _≤_, _<_}
 use mathlib.Core.Path.{_≡_, ap, refl, sym, _∙_}
 use mathlib.Core.Logic.{_≢_}
 use mathlib.Core.Bool.{Bool, true, false, cond, true≢false}
@@ -10,27 +10,13 @@ use lib.Dec.{T, ltb}
 use Rattle.answers.specs.Call.{_if_, firstRefusal}
 use Rattle.answers.proofs.Calls.{passed as none-held}
 use Rattle.frames.specs.declared.Frame.{Frame}
+use Rattle.frames.specs.declared.Frame.the-variants.{Header, Assign, Permit, Separate, End}
 use Rattle.frames.specs.declared.Parsed.{Parsed}
 use Rattle.frames.specs.declared.Parsed.the-variants.{NoBytes, NoFrame, Good}
 use Rattle.frames.specs.declared.Passed.{Passed}
 use Rattle.frames.specs.declared.Verdict.the-variants.{Refused, Accepted}
 use Rattle.frames.specs.Frame.{textOf, key}
-use Rattle.frames.specs.Check.{
-  start,
-  next,
-  misplaced,
-  oversized,
-  outOfRange,
-  tooMany,
-  miscounted,
-  frameRefusals,
-  parsedRefusals,
-  lineRefusals,
-  nextLine,
-  check,
-  parsedLines,
-  framesOf,
-}
+use Rattle.frames.specs.Check.{start, next, misplaced, oversized, outOfRange, tooMany, miscounted, frameRefusals, parsedRefusals, lineRefusals, nextLine, check, parsedLines, framesOf}
 use Rattle.frames.proofs.Frames.{FrameBytes, text-read}
 
 -- a frame that passes after the lines k: none of its refusals holds
@@ -46,13 +32,13 @@ pub record Fine (k : Passed) (f : Frame) : Type 0 where
 pub fine-of : (k : Passed) (f : Frame) → firstRefusal (lineRefusals k (Good f)) ≡ 0 → Fine k f
 unfolding lineRefusals parsedRefusals frameRefusals
 fine-of k f e =
-    let a = none-held 9 (k .ended) _ tt e in
-    let b = none-held 4 (misplaced k f) _ tt (a .1) in
-    let c = none-held 5 (oversized f) _ tt (b .1) in
-    let d = none-held 6 (outOfRange k f) _ tt (c .1) in
-    let g = none-held 7 _ _ tt (d .1) in
-    let h = none-held 8 (tooMany k f) _ tt (g .1) in
-    let i = none-held 9 (miscounted k f) _ tt (h .1) in
+    let a = none-held _ (k .ended) _ tt e in
+    let b = none-held _ (misplaced k f) _ tt (a .1) in
+    let c = none-held _ (oversized f) _ tt (b .1) in
+    let d = none-held _ (outOfRange k f) _ tt (c .1) in
+    let g = none-held _ _ _ tt (d .1) in
+    let h = none-held _ (tooMany k f) _ tt (g .1) in
+    let i = none-held _ (miscounted k f) _ tt (h .1) in
     record {
       not-ended = a .0;
       in-place = b .0;
@@ -128,6 +114,17 @@ end-lacks k e h = not-refused (rw e at h)
 pub nothing-after : (k : Passed) (f : Frame) (ps : List Parsed) → k .ended ≡ true → check k (Good f ∷ ps) ≡ Accepted → ⊥
 nothing-after k f ps e h = true≢false (sym e ∙ frame-passed k f ps h .0 .not-ended)
 
+-- a line more is counted once at most
+pub more-lines : (k : Passed) (x : Parsed) → nextLine k x .lines ≤ k .lines + 1
+unfolding nextLine next
+more-lines k NoBytes = omega arith
+more-lines k NoFrame = omega arith
+more-lines k (Good (Header s o r)) = omega arith
+more-lines k (Good (Assign s r)) = omega arith
+more-lines k (Good (Permit r o m)) = omega arith
+more-lines k (Good (Separate v u)) = omega arith
+more-lines k (Good (End v l)) = omega arith
+
 -- ---- a text that passes is one of frames
 always-refused : (m n : ℕ) (t : Bool) → T (ltb 0 m) → T (ltb 0 n) → firstRefusal ((m if t) ∷ (n if true) ∷ []) ≡ 0 → ⊥
 always-refused m n t p q e = true≢false (none-held n true [] q (none-held m t _ p e .1) .0)
@@ -135,8 +132,8 @@ always-refused m n t p q e = true≢false (none-held n true [] q (none-held m t 
 pub all-frames : (k : Passed) (ps : List Parsed) → check k ps ≡ Accepted → ps ≡ map Good (framesOf ps)
 unfolding framesOf nextLine lineRefusals parsedRefusals
 all-frames k [] h = refl
-all-frames k (NoBytes ∷ ps) h = absurd (always-refused 9 2 (k .ended) tt tt (line-passed k NoBytes ps h .0))
-all-frames k (NoFrame ∷ ps) h = absurd (always-refused 9 3 (k .ended) tt tt (line-passed k NoFrame ps h .0))
+all-frames k (NoBytes ∷ ps) h = absurd (always-refused _ _ (k .ended) tt tt (line-passed k NoBytes ps h .0))
+all-frames k (NoFrame ∷ ps) h = absurd (always-refused _ _ (k .ended) tt tt (line-passed k NoFrame ps h .0))
 all-frames k (Good f ∷ ps) h = ap (λ (l : List Parsed). Good f ∷ l) (all-frames (next k f) ps (frame-passed k f ps h .1))
 
 pub frames-again : (fs : List Frame) → framesOf (map Good fs) ≡ fs

@@ -1,12 +1,21 @@
--- A text for every refusal, and two faults in one line: which number is answered, at which line.
+-- A text for every refusal, and two faults in one line: which number is answered, at which line. Then a line of each kind: its frame,
+-- and what is known after it.
+use Prim.Native.Nat.{ℕ}
 use mathlib.Core.Path.{_≡_, refl}
-use mathlib.Core.List.{[], _∷_, _++_}
-use Rattle.frames.specs.declared.Frame.the-variants.{Header, End}
+use mathlib.Core.Bool.{true, false}
+use mathlib.Core.List.{List, [], _∷_, _++_, map}
+use Rattle.tables.specs.Sheet.{counts}
+use Rattle.digits.specs.Digit.{isDigit, digitValue, digitByte, digitPairs, toBytes, toDigits}
+use Rattle.digits.specs.Line.{joined, lines, nonEmpty, soundLine, lineOf}
+use Rattle.digits.specs.Text.{codes}
+use Rattle.frames.specs.declared.Frame.{Frame}
+use Rattle.frames.specs.declared.Frame.the-variants.{Header, Assign, Permit, Separate, End}
+use Rattle.frames.specs.declared.Parsed.the-variants.{NoBytes, NoFrame, Good}
 use Rattle.frames.specs.declared.Verdict.the-variants.{Refused, Accepted}
-use Rattle.frames.specs.Check.{framesOf}
+use Rattle.frames.specs.Frame.{frameBytes, ofThree, ofFour, frameOf, parse, textOf, key}
+use Rattle.frames.specs.Check.{passed, start, next, nextLine, parsedLines, framesOf}
 use Rattle.frames.proofs.Checks.{TextOf, accepted-frames}
 use Rattle.frames.proofs.Verdicts.{bytesVerdict, verdict, separated}
-use Rattle.digits.specs.Text.{codes}
 
 record Passing : Type 0 where
   least : verdict "01000000\n050001\n" ≡ Accepted
@@ -160,6 +169,53 @@ order =
       range-before-many = refl;
       ascent-before-many = refl;
       first-line-decides = refl;
+    }
+
+-- ---- frames
+-- a line of each kind, as text and as frames
+fiveLines : List ℕ
+unfolding codes
+fiveLines = codes "01030405\n020201\n03010003\n040004\n050004\n"
+
+fiveFrames : List Frame
+fiveFrames = Header 3 4 5 ∷ Assign 2 1 ∷ Permit 1 0 3 ∷ Separate 0 4 ∷ End 0 4 ∷ []
+
+record OneEach : Type 0 where
+  written : textOf fiveFrames ≡ fiveLines
+  read : parsedLines fiveLines ≡ map Good fiveFrames
+  picked : framesOf (Good (Assign 2 1) ∷ NoBytes ∷ NoFrame ∷ Good (End 0 4) ∷ []) ≡ Assign 2 1 ∷ End 0 4 ∷ []
+
+one-each : OneEach
+unfolding fiveLines fiveFrames codes textOf frameBytes lineOf toDigits digitByte framesOf parsedLines parse frameOf ofThree ofFour lines joined soundLine nonEmpty digitPairs isDigit toBytes digitValue
+one-each = record { written = refl; read = refl; picked = refl }
+
+-- what is known before them and after each
+record Known : Type 0 where
+  at-start : start ≡ passed 0 false (counts 0 0 0) 0 0
+  header : next start (Header 3 4 5) ≡ passed 1 false (counts 3 4 5) 66308 0
+  assignment : next (passed 1 false (counts 3 4 5) 66308 0) (Assign 2 1) ≡ passed 2 false (counts 3 4 5) 131585 0
+  permission : next (passed 2 false (counts 3 4 5) 131585 0) (Permit 1 0 3) ≡ passed 3 false (counts 3 4 5) 196864 0
+  separation : next (passed 3 false (counts 3 4 5) 196864 0) (Separate 0 4) ≡ passed 4 false (counts 3 4 5) 262148 1
+  other-header : next (passed 4 false (counts 3 4 5) 262148 1) (Header 6 7 8) ≡ passed 5 false (counts 6 7 8) 67079 1
+  end : next (passed 4 false (counts 3 4 5) 262148 1) (End 0 4) ≡ passed 5 true (counts 3 4 5) 327684 1
+  frame : nextLine start (Good (Header 3 4 5)) ≡ next start (Header 3 4 5)
+  no-bytes : nextLine (passed 1 false (counts 3 4 5) 66308 0) NoBytes ≡ passed 1 false (counts 3 4 5) 66308 0
+  no-frame : nextLine (passed 1 false (counts 3 4 5) 66308 0) NoFrame ≡ passed 1 false (counts 3 4 5) 66308 0
+
+known : Known
+unfolding start next nextLine key
+known =
+    record {
+      at-start = refl;
+      header = refl;
+      assignment = refl;
+      permission = refl;
+      separation = refl;
+      other-header = refl;
+      end = refl;
+      frame = refl;
+      no-bytes = refl;
+      no-frame = refl;
     }
 
 -- the least text consists of two frames

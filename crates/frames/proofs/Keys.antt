@@ -4,8 +4,8 @@ use mathlib.Core.Path.{_≡_, refl}
 use mathlib.Core.Logic.{_↔_, inl, inr}
 use native.Mathlib.Decide.{decLt}
 use native.Mathlib.Omega.{arith}
-use Rattle.answers.specs.Sheet.{pairKey}
-use Rattle.answers.proofs.Keys.{key-before, before-key}
+use Rattle.tables.specs.Sheet.{pairKey}
+use Rattle.tables.proofs.Keys.{key-before, before-key}
 use Rattle.digits.proofs.Digits.{Bytes}
 use Rattle.frames.specs.declared.Frame.{Frame}
 use Rattle.frames.specs.declared.Frame.the-variants.{Header, Assign, Permit, Separate, End}
@@ -45,7 +45,19 @@ key-order f g hf hg = (λ h. ascends h (decLt (byteOf f 0) (byteOf g 0)), below)
     below (inl h) = omega (arith, key-bytes f, key-bytes g, a)
     below (inr h) = omega (arith, key-bytes f, key-bytes g, before-key _ _ _ _ (a .1) (b .1) (h .1))
 
--- the two separations of the printed sheet of document 01
-in-order : LineBefore (Separate 0 4) (Separate 4 2)
+-- by the first byte, by the second, and by the third, but not by the mode
+record Ascends : Type 0 where
+  by-first : LineBefore (Assign 9 9) (Permit 0 0 1)
+  by-second : LineBefore (Separate 0 4) (Separate 4 2)
+  by-third : LineBefore (Separate 4 1) (Separate 4 2)
+  not-by-mode : LineBefore (Permit 0 0 1) (Permit 0 0 2) → ⊥
+
+ascends : Ascends
 unfolding Bytes frameBytes key
-in-order = key-order (Separate 0 4) (Separate 4 2) (omega arith) (omega arith) .0 (omega arith)
+ascends =
+    record {
+      by-first = key-order (Assign 9 9) (Permit 0 0 1) (omega arith) (omega arith) .0 (omega arith);
+      by-second = key-order (Separate 0 4) (Separate 4 2) (omega arith) (omega arith) .0 (omega arith);
+      by-third = key-order (Separate 4 1) (Separate 4 2) (omega arith) (omega arith) .0 (omega arith);
+      not-by-mode = λ h. let same = key-order (Permit 0 0 1) (Permit 0 0 2) (omega arith) (omega arith) .1 h in omega arith;
+    }

@@ -8,21 +8,7 @@ use Rattle.digits.specs.Line.{joined, lines, nonEmpty, soundLine, lineOf}
 use Rattle.digits.specs.Text.{codes}
 use Rattle.frames.specs.declared.Verdict.{Verdict}
 use Rattle.frames.specs.Frame.{ofThree, ofFour, frameOf, parse, key}
-use Rattle.frames.specs.Check.{
-  start,
-  next,
-  misplaced,
-  oversized,
-  outOfRange,
-  tooMany,
-  miscounted,
-  frameRefusals,
-  parsedRefusals,
-  lineRefusals,
-  nextLine,
-  check,
-  parsedLines,
-}
+use Rattle.frames.specs.Check.{start, next, misplaced, oversized, outOfRange, tooMany, miscounted, frameRefusals, parsedRefusals, lineRefusals, nextLine, check, parsedLines}
 
 unfoldable pub bytesVerdict : List ℕ → Verdict
 unfolding isDigit digitValue digitPairs toBytes joined lines nonEmpty soundLine ofThree ofFour frameOf parse key start next misplaced oversized outOfRange tooMany miscounted firstRefusal frameRefusals parsedRefusals lineRefusals nextLine check parsedLines

@@ -3,11 +3,11 @@ use Prim.Native.Nat.{ℕ, zero, suc, _+_, _*_}
 use mathlib.Core.Bool.{Bool, true, false, cond, not, _||_}
 use mathlib.Core.List.{List, [], _∷_, map}
 use lib.Dec.{leb, ltb, eqb}
-use Rattle.answers.specs.declared.Counts.{Counts}
+use Rattle.tables.specs.declared.Counts.{Counts}
 use Rattle.answers.specs.Sizes.{mostSubjects, mostObjects, mostRoles, mostSeparations}
 use Rattle.answers.specs.Call.{Refusal, _if_, firstRefusal}
 use Rattle.answers.specs.Rows.{exceeds}
-use Rattle.answers.specs.Sheet.{counts, entities}
+use Rattle.tables.specs.Sheet.{counts, entities}
 use Rattle.digits.specs.Line.{lines}
 use Rattle.frames.specs.declared.Frame.{Frame}
 use Rattle.frames.specs.declared.Frame.the-variants.{Header, Assign, Permit, Separate, End}

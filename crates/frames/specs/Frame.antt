@@ -6,7 +6,7 @@ use mathlib.Core.Bool.{cond}
 use mathlib.Core.List.{List, [], _∷_, _++_}
 use lib.Dec.{eqb}
 use lib.ListN.{getD}
-use Rattle.answers.specs.Sheet.{PairBefore, pairKey}
+use Rattle.tables.specs.Sheet.{PairBefore, pairKey}
 use Rattle.digits.specs.Digit.{toBytes}
 use Rattle.digits.specs.Line.{Line, soundLine, lineOf}
 use Rattle.frames.specs.declared.Frame.{Frame}

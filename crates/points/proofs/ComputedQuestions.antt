@@ -9,7 +9,7 @@ use borrow.Author.Tests.{eqb-true, eqb-false, eq-eqb, not-true, not-false}
 use lib.Dec.{eqb}
 use lib.ListN.{length, getD}
 use Rattle.answers.specs.Rows.{Mark, one, none, anyBelow}
-use Rattle.answers.specs.Sheet.{Sheet, entities}
+use Rattle.tables.specs.Sheet.{Sheet, entities}
 use Rattle.answers.proofs.Below.{held-by, none-of}
 use Rattle.answers.proofs.Marks.{marked-yes, mark-of}
 use Rattle.theory.specs.Flow.{Flow}

@@ -8,7 +8,7 @@ use native.Mathlib.Omega.{arith}
 use borrow.Author.Tests.{ltb-true, ltb-false, eqb-true, eq-eqb, lt-ltb, le-ltb}
 use lib.Dec.{ltb, eqb}
 use Rattle.answers.specs.Rows.{anyBelow}
-use Rattle.answers.specs.Sheet.{Sheet, entities, assignedByte, modeByte}
+use Rattle.tables.specs.Sheet.{Sheet, entities, assignedByte, modeByte}
 use Rattle.answers.proofs.Below.{found, held-by}
 use Rattle.theory.specs.Flow.{Flow}
 use Rattle.theory.specs.Chain.{Best}

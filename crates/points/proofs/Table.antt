@@ -4,7 +4,7 @@ use mathlib.Core.Path.{_≡_, refl, sym, subst, _∙_}
 use mathlib.Core.Bool.{true, false, true≢false}
 use mathlib.Core.List.{[], _∷_}
 use lib.Dec.{lit<}
-use Rattle.answers.specs.Sheet.{Sheet}
+use Rattle.tables.specs.Sheet.{Sheet}
 use Rattle.theory.specs.Order.{only-there}
 use Rattle.access.specs.Channel.{Channel}
 use Rattle.change.specs.Change.{withPermission}
@@ -12,8 +12,8 @@ use Rattle.text.specs.Reading.{accepted, readText}
 use Rattle.text.specs.Worked.{workedText}
 use Rattle.text.proofs.Worked.{worked, reads-worked}
 use Rattle.transfers.specs.declared.Act.the-variants.{Moves, NotPermitted}
-use Rattle.transfers.specs.Acts.{verdictBytes, after}
-use Rattle.transfers.specs.Transfers.{toSubject, toObject, moves, barred, none, next}
+use Rattle.transfers.specs.Acts.{verdictBytes, after, none, next}
+use Rattle.transfers.specs.Transfers.{toSubject, toObject, moves, barred}
 use Rattle.points.specs.Points.{changed, Points}
 use Rattle.points.proofs.Computed.{chainb}
 use Rattle.points.proofs.ComputedSheet.{channelb, channel-of-test, test-of-channel, sheet-flows, sheet-flows-not, sheet-chain}

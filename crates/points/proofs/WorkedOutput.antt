@@ -7,7 +7,7 @@ use native.Mathlib.Omega.{arith}
 use lib.Dec.{eqb, lit<}
 use lib.ListN.{length, getD}
 use Rattle.answers.specs.Rows.{count}
-use Rattle.answers.specs.Sheet.{Sheet, entities}
+use Rattle.tables.specs.Sheet.{Sheet, entities}
 use Rattle.theory.specs.Flow.{Flow}
 use Rattle.digits.specs.Digit.{digitByte, toDigits}
 use Rattle.digits.specs.Line.{lineOf}
@@ -15,7 +15,7 @@ use Rattle.digits.specs.Text.{codes}
 use Rattle.access.specs.Channel.{Channel}
 use Rattle.text.specs.Worked.{workedText}
 use Rattle.text.proofs.Worked.{worked, reads-worked}
-use Rattle.report.specs.Output.{EntityLine, none, next, broken, sheet-lines, Output}
+use Rattle.output.specs.Output.{EntityLine, none, next, broken, sheet-lines, Output}
 use Rattle.points.proofs.Computed.{chainb}
 use Rattle.points.proofs.ComputedSheet.{channelb, sheet-flows, sheet-chain}
 use Rattle.points.proofs.ComputedQuestions.{flowb, noneb, others, together, flags, label-is, class-is, greatest-is}

@@ -2,7 +2,7 @@
 use Prim.Native.Nat.{ℕ}
 use mathlib.Core.Path.{_≡_}
 use mathlib.Core.List.{List, [], _∷_}
-use Rattle.answers.specs.Sheet.{Sheet, entities}
+use Rattle.tables.specs.Sheet.{Sheet, entities}
 use Rattle.theory.specs.Flow.{Flow}
 use Rattle.theory.specs.Chain.{Best}
 use Rattle.theory.specs.Order.{Label, ClassName, below, Compares}
@@ -10,8 +10,8 @@ use Rattle.access.specs.Channel.{Channel}
 use Rattle.change.specs.Change.{withPermission}
 use Rattle.transfers.specs.declared.Act.{Act}
 use Rattle.transfers.specs.declared.Transfer.{Transfer}
-use Rattle.transfers.specs.Acts.{verdictBytes, after}
-use Rattle.transfers.specs.Transfers.{transfer, AllCome}
+use Rattle.transfers.specs.Acts.{verdictBytes, after, AllCome}
+use Rattle.transfers.specs.Transfers.{transfer, Comes}
 
 -- the flow of a sheet
 abbrev pub Flows : Sheet → ℕ → ℕ → Type 0
@@ -24,7 +24,7 @@ changed t = withPermission t 1 1 3
 -- transfers, rehearsed from some marks, give these verdict bytes and leave these marks
 pub record Leaves (t : Sheet) (transfers : List Transfer) (marks : List ℕ) (verdicts left : List ℕ) : Type 0 where
   pub acts : List Act
-  pub come : AllCome (t .counts) (Channel t) transfers acts
+  pub come : AllCome (Comes (t .counts) (Channel t)) transfers acts
   pub told : verdictBytes acts ≡ verdicts
   pub marks-left : after acts marks ≡ left
 

@@ -1,7 +1,7 @@
 // The "Only run" points of document 01: a line each, what is tried and the answer number. The thirteen worked points are theorems, in
 // proofs/.
-use answers::Counts;
 use libc::STDOUT_FILENO;
+use tables::Counts;
 use transfers::Tally;
 ghost use Prim.Native.Nat.{_*_, _≤_};
 ghost use lib.ListN.{length};
@@ -68,7 +68,7 @@ fn rehearse(transfers: &[u8], applied: u32) -> u8 {
     let permission = [0u8; 3072];
     let mut marks = [0u32; 112];
     let mut verdicts = [0u8; 4096];
-    let r = transfers::rehearse_tallied(
+    let r = rehearsal::rehearse_tallied(
         none,
         &assignment,
         &permission,

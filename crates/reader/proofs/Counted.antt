@@ -5,7 +5,7 @@ use mathlib.Core.List.{List, [], _∷_}
 use native.Mathlib.Omega.{arith}
 use lib.ListN.{length, length-append}
 use borrow.Author.Tests.{ltb-false}
-use Rattle.answers.specs.Sheet.{Sheet, counts}
+use Rattle.tables.specs.Sheet.{Sheet, counts}
 use Rattle.frames.specs.declared.Frame.{Frame}
 use Rattle.frames.specs.declared.Frame.the-variants.{Header, Assign, Permit, Separate, End}
 use Rattle.frames.specs.declared.Parsed.{Parsed}
@@ -13,8 +13,8 @@ use Rattle.frames.specs.declared.Parsed.the-variants.{NoBytes, NoFrame, Good}
 use Rattle.frames.specs.declared.Passed.{Passed}
 use Rattle.frames.specs.declared.Verdict.the-variants.{Accepted}
 use Rattle.frames.specs.Check.{start, next, nextLine, misplaced, check, framesOf}
-use Rattle.frames.specs.Inner.{afterLines}
 use Rattle.frames.proofs.Checks.{Fine, fine-of, line-passed}
+use Rattle.checking.specs.Inner.{afterLines}
 use Rattle.text.specs.Content.{blank, add, addAll, contentOf}
 
 -- k has the counts of t; before the first line there are no separations

@@ -8,42 +8,42 @@ use lib.Seq.{drop-drop, length-take-le}
 use borrow.Author.Tests.{ltb-false}
 use Rattle.answers.specs.Rows.{over}
 use Rattle.answers.specs.Call.{firstRefusal}
-use Rattle.answers.specs.Sheet.{Sheet, sheetOf}
+use Rattle.tables.specs.Sheet.{Sheet, sheetOf}
 use Rattle.digits.specs.Line.{lines}
 use Rattle.frames.specs.declared.Frame.{Frame}
 use Rattle.frames.specs.declared.Frame.the-variants.{Header, Assign, Permit, Separate, End}
-use Rattle.frames.specs.declared.Found.{Found}
 use Rattle.frames.specs.declared.Parsed.{Parsed}
 use Rattle.frames.specs.declared.Parsed.the-variants.{NoBytes, NoFrame, Good}
 use Rattle.frames.specs.declared.Passed.{Passed}
 use Rattle.frames.specs.declared.Verdict.the-variants.{Accepted}
 use Rattle.frames.specs.Check.{start, next, nextLine, misplaced, lineRefusals, check, parsedLines, framesOf}
-use Rattle.frames.specs.Inner.{FoundAt}
 use Rattle.frames.proofs.Checks.{Fine, fine-of, line-passed}
 use Rattle.frames.proofs.Ranges.{header-fits, separate-room}
+use Rattle.parsing.specs.declared.Found.{Found}
+use Rattle.parsing.specs.Inner.{FoundAt}
 use Rattle.text.specs.Content.{blank, addAll, contentOf}
-use Rattle.reader.specs.Fill.{Long, Filled}
+use Rattle.reader.specs.Fill.{Tables, Long, Filled}
 use Rattle.reader.specs.Inner.{held, assignmentUsed, permissionUsed, separationsUsed, Within, Passes, LineStored}
 use Rattle.reader.proofs.Stores.{assignment-room, permission-room}
 
--- a, p, q are the tables at the place i of the text t, and a₀, p₀, q₀ as they were lent
-pub record Filling (t a₀ p₀ q₀ a p q : List ℕ) (k : Passed) (i : ℕ) : Type 0 where
+-- b are the tables at the place i of the text t, and b₀ as they were lent
+pub record Filling (t : List ℕ) (b₀ b : Tables) (k : Passed) (i : ℕ) : Type 0 where
   pub left : check k (parsedLines (drop i t)) ≡ Accepted
-  pub said : addAll (held k a p q) (framesOf (parsedLines (drop i t))) ≡ contentOf (framesOf (parsedLines t))
-  pub assignment-past : drop (assignmentUsed k) a ≡ drop (assignmentUsed k) a₀
-  pub permission-past : drop (permissionUsed k) p ≡ drop (permissionUsed k) p₀
-  pub separations-past : drop (separationsUsed k) q ≡ drop (separationsUsed k) q₀
-  pub assignment-length : length a ≡ length a₀
-  pub permission-length : length p ≡ length p₀
-  pub separations-length : length q ≡ length q₀
+  pub said : addAll (held k b) (framesOf (parsedLines (drop i t))) ≡ contentOf (framesOf (parsedLines t))
+  pub assignment-past : drop (assignmentUsed k) (b .assignment) ≡ drop (assignmentUsed k) (b₀ .assignment)
+  pub permission-past : drop (permissionUsed k) (b .permission) ≡ drop (permissionUsed k) (b₀ .permission)
+  pub separations-past : drop (separationsUsed k) (b .separations) ≡ drop (separationsUsed k) (b₀ .separations)
+  pub assignment-length : length (b .assignment) ≡ length (b₀ .assignment)
+  pub permission-length : length (b .permission) ≡ length (b₀ .permission)
+  pub separations-length : length (b .separations) ≡ length (b₀ .separations)
   pub within : Within k
   pub few-lines : k .lines ≤ i
   pub near : i ≤ length t + 1
 
-pub filling-start : (t a p q : List ℕ) (k : Passed) → k ≡ start → check start (parsedLines t) ≡ Accepted → Filling t a p q a p q k 0
+pub filling-start : (t : List ℕ) (b : Tables) (k : Passed) → k ≡ start → check start (parsedLines t) ≡ Accepted → Filling t b b k 0
 unfolding start blank contentOf sheetOf
-filling-start t a p q k e h =
-    subst (λ (m : Passed). Filling t a p q a p q m 0) (sym e)
+filling-start t b k e h =
+    subst (λ (m : Passed). Filling t b b m 0) (sym e)
     (record {
       left = h;
       said = refl;
@@ -133,19 +133,19 @@ kept : (n : ℕ) (a b : List ℕ) → n ≤ length a → drop n a ≡ drop n b �
 unfolding over
 kept n a b h e = sym (take-append-drop n a) ∙ ap (λ (l : List ℕ). take n a ++ l) (e ∙ ap (λ (m : ℕ). drop m b) (sym (length-take-le n a h)))
 
-parts-kept : (t a₀ p₀ q₀ a p q : List ℕ) (k : Passed) (i : ℕ) → Filling t a₀ p₀ q₀ a p q k i → Long a₀ p₀ q₀ → Filled (held k a p q) a₀ p₀ q₀ a p q
+parts-kept : (t : List ℕ) (b₀ b : Tables) (k : Passed) (i : ℕ) → Filling t b₀ b k i → Long b₀ → Filled (held k b) b₀ b
 unfolding sheetOf
-parts-kept t a₀ p₀ q₀ a p q k i s long =
-    let a-fits : assignmentUsed k ≤ length a = omega (arith, assignment-room k (s .within), s .assignment-length, long .assignment-long) in
-    let p-fits : permissionUsed k ≤ length p = omega (arith, permission-room k (s .within), s .permission-length, long .permission-long) in
-    let q-fits : separationsUsed k ≤ length q = omega (arith, s .within .separations, s .separations-length, long .separations-long) in
+parts-kept t b₀ b k i s long =
+    let a-fits : assignmentUsed k ≤ length (b .assignment) = omega (arith, assignment-room k (s .within), s .assignment-length, long .assignment-long) in
+    let p-fits : permissionUsed k ≤ length (b .permission) = omega (arith, permission-room k (s .within), s .permission-length, long .permission-long) in
+    let q-fits : separationsUsed k ≤ length (b .separations) = omega (arith, s .within .separations, s .separations-length, long .separations-long) in
     record {
-      assignment-filled = kept (assignmentUsed k) a a₀ a-fits (s .assignment-past);
-      permission-filled = kept (permissionUsed k) p p₀ p-fits (s .permission-past);
-      separations-filled = kept (separationsUsed k) q q₀ q-fits (s .separations-past);
+      assignment-filled = kept (assignmentUsed k) _ _ a-fits (s .assignment-past);
+      permission-filled = kept (permissionUsed k) _ _ p-fits (s .permission-past);
+      separations-filled = kept (separationsUsed k) _ _ q-fits (s .separations-past);
     }
 
-module _ (t a₀ p₀ q₀ a p q : List ℕ) (k : Passed) (i : ℕ) (s : Filling t a₀ p₀ q₀ a p q k i) where
+module _ (t : List ℕ) (b₀ b : Tables) (k : Passed) (i : ℕ) (s : Filling t b₀ b k i) where
   module _ (found : Found) (here : FoundAt t i found) where
     at-line : (firstRefusal (lineRefusals k (found .parsed)) ≡ 0) × (check (nextLine k (found .parsed)) (parsedLines (drop (found .next) t)) ≡ Accepted)
     at-line = line-passed k (found .parsed) (parsedLines (drop (found .next) t)) (ap (check k) (sym (here .first)) ∙ s .left)
@@ -153,23 +153,24 @@ module _ (t a₀ p₀ q₀ a p q : List ℕ) (k : Passed) (i : ℕ) (s : Filling
     pub line-passes : i < length t → length t < 2 ^ 63 → Passes k (found .parsed)
     line-passes more short = record { within = s .within; few-lines = omega (arith, s .few-lines); fine = at-line .0 }
 
-    pub filling-next : (m : Passed) (a′ p′ q′ : List ℕ) → LineStored k (found .parsed) m a p q a′ p′ q′ →
-        length a′ ≡ length a → length p′ ≡ length p → length q′ ≡ length q → Filling t a₀ p₀ q₀ a′ p′ q′ m (found .next)
-    filling-next m a′ p′ q′ w la lp lq =
+    pub filling-next : (m : Passed) (b′ : Tables) → LineStored k (found .parsed) m b b′ →
+        length (b′ .assignment) ≡ length (b .assignment) → length (b′ .permission) ≡ length (b .permission) → length (b′ .separations) ≡ length (b .separations) →
+        Filling t b₀ b′ m (found .next)
+    filling-next m b′ w la lp lq =
         let x : Parsed = found .parsed in
         let rest : List Parsed = parsedLines (drop (found .next) t) in
         let g = grows-line k (s .within) x (at-line .0) in
-        subst (λ (z : Passed). Filling t a₀ p₀ q₀ a′ p′ q′ z (found .next)) (sym (w .known))
+        subst (λ (z : Passed). Filling t b₀ b′ z (found .next)) (sym (w .known))
         (record {
           left = at-line .1;
           said =
               ap (λ (u : Sheet). addAll u (framesOf rest)) (w .holds .content)
-              ∙ add-first (held k a p q) x rest
-              ∙ ap (λ (l : List Parsed). addAll (held k a p q) (framesOf l)) (sym (here .first))
+              ∙ add-first (held k b) x rest
+              ∙ ap (λ (l : List Parsed). addAll (held k b) (framesOf l)) (sym (here .first))
               ∙ s .said;
-          assignment-past = w .holds .assignment-past ∙ drop-further _ _ a a₀ (g .assignment) (s .assignment-past);
-          permission-past = w .holds .permission-past ∙ drop-further _ _ p p₀ (g .permission) (s .permission-past);
-          separations-past = w .holds .separations-past ∙ drop-further _ _ q q₀ (g .separations) (s .separations-past);
+          assignment-past = w .holds .assignment-past ∙ drop-further _ _ _ _ (g .assignment) (s .assignment-past);
+          permission-past = w .holds .permission-past ∙ drop-further _ _ _ _ (g .permission) (s .permission-past);
+          separations-past = w .holds .separations-past ∙ drop-further _ _ _ _ (g .separations) (s .separations-past);
           assignment-length = la ∙ s .assignment-length;
           permission-length = lp ∙ s .permission-length;
           separations-length = lq ∙ s .separations-length;
@@ -178,7 +179,7 @@ module _ (t a₀ p₀ q₀ a p q : List ℕ) (k : Passed) (i : ℕ) (s : Filling
           near = here .near;
         })
 
-  pub still-long : Long a₀ p₀ q₀ → Long a p q
+  pub still-long : Long b₀ → Long b
   still-long l =
       record {
         assignment-long = omega (arith, l .assignment-long, s .assignment-length);
@@ -187,12 +188,12 @@ module _ (t a₀ p₀ q₀ a p q : List ℕ) (k : Passed) (i : ℕ) (s : Filling
       }
 
   -- no line is left
-  pub filling-done : length t ≤ i → Long a₀ p₀ q₀ → Filled (contentOf (framesOf (parsedLines t))) a₀ p₀ q₀ a p q
+  pub filling-done : length t ≤ i → Long b₀ → Filled (contentOf (framesOf (parsedLines t))) b₀ b
   unfolding addAll framesOf parsedLines lines
-  filling-done done long = subst (λ (u : Sheet). Filled u a₀ p₀ q₀ a p q) all holding
+  filling-done done long = subst (λ (u : Sheet). Filled u b₀ b) all holding
     where
-      all : held k a p q ≡ contentOf (framesOf (parsedLines t))
-      all = ap (λ (l : List ℕ). addAll (held k a p q) (framesOf (parsedLines l))) (sym (drop-of-length-le t {i = i} done)) ∙ s .said
+      all : held k b ≡ contentOf (framesOf (parsedLines t))
+      all = ap (λ (l : List ℕ). addAll (held k b) (framesOf (parsedLines l))) (sym (drop-of-length-le t {i = i} done)) ∙ s .said
 
-      holding : Filled (held k a p q) a₀ p₀ q₀ a p q
-      holding = parts-kept t a₀ p₀ q₀ a p q k i s long
+      holding : Filled (held k b) b₀ b
+      holding = parts-kept t b₀ b k i s long

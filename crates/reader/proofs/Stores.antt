@@ -8,8 +8,8 @@ use lib.Arith.{digits-lt}
 use lib.ListN.{length, take, drop, set, replicate, length-set, length-replicate}
 use lib.Seq.{take-set-lt, drop-set-lt, take-suc-set, take-at, drop-at}
 use borrow.Author.Tests.{ltb-false}
-use Rattle.answers.specs.Sheet.{lent, sheetOf, counts}
 use Rattle.answers.proofs.Products.{product-within}
+use Rattle.tables.specs.Sheet.{lent, sheetOf, counts, sheet}
 use Rattle.frames.specs.declared.Frame.{Frame}
 use Rattle.frames.specs.declared.Frame.the-variants.{Header, Assign, Permit, Separate, End}
 use Rattle.frames.specs.declared.Parsed.{Parsed}
@@ -17,10 +17,10 @@ use Rattle.frames.specs.declared.Parsed.the-variants.{NoBytes, NoFrame, Good}
 use Rattle.frames.specs.declared.Passed.{Passed}
 use Rattle.frames.specs.Check.{start, next, nextLine, misplaced, framesOf}
 use Rattle.frames.proofs.Checks.{fine-of}
-use Rattle.frames.proofs.Ranges.{assign-range, permit-range, separate-room as room-left}
-use Rattle.frames.proofs.Ranges.{header-fits as counts-fit}
-use Rattle.text.specs.Content.{sheet, blank, add, addAll}
-use Rattle.reader.specs.Inner.{held, assignmentUsed, permissionUsed, separationsUsed, Within, Passes, Holds, LineStored}
+use Rattle.frames.proofs.Ranges.{assign-range, permit-range, separate-room as room-left, header-fits as counts-fit}
+use Rattle.text.specs.Content.{blank, add, addAll}
+use Rattle.reader.specs.Fill.{Tables, tables}
+use Rattle.reader.specs.Inner.{assignmentUsed, permissionUsed, separationsUsed, Within, Passes, FrameStored, LineStored}
 
 -- ---- the used parts are within the least lengths
 pub assignment-room : (k : Passed) → Within k → assignmentUsed k ≤ 2304
@@ -68,11 +68,11 @@ blank-held s o r n a p q ea ep en = rw (ea, ep, en)
 
 module _ (k : Passed) (f : Frame) (h : Passes k (Good f)) (a p q : List ℕ) where
   pub header-stored : (s o r : ℕ) → f ≡ Header s o r →
-      Holds (next k f) (add (held k a p q) f) a p q (replicate (s * r) 0 ++ drop (s * r) a) (replicate (r * o) 0 ++ drop (r * o) p) q
+      FrameStored k f (tables a p q) (tables (replicate (s * r) 0 ++ drop (s * r) a) (replicate (r * o) 0 ++ drop (r * o) p) q)
   unfolding next add
   header-stored s o r e =
       let none : k .separations ≡ 0 = none-yet (header-first k f h s o r e) in
-      subst (λ (g : Frame). Holds (next k g) (add (held k a p q) g) a p q (replicate (s * r) 0 ++ drop (s * r) a) (replicate (r * o) 0 ++ drop (r * o) p) q) (sym e)
+      subst (λ (g : Frame). FrameStored k g (tables a p q) (tables (replicate (s * r) 0 ++ drop (s * r) a) (replicate (r * o) 0 ++ drop (r * o) p) q)) (sym e)
       (record {
         content =
             blank-held s o r (k .separations) _ _ q
@@ -84,12 +84,12 @@ module _ (k : Passed) (f : Frame) (h : Passes k (Good f)) (a p q : List ℕ) whe
         separations-past = refl;
       })
 
-  pub assign-stored : (s r : ℕ) → f ≡ Assign s r → Holds (next k f) (add (held k a p q) f) a p q (set a (s * k .counts .roles + r) 1) p q
+  pub assign-stored : (s r : ℕ) → f ≡ Assign s r → FrameStored k f (tables a p q) (tables (set a (s * k .counts .roles + r) 1) p q)
   unfolding next add sheetOf
   assign-stored s r e =
       let i : ℕ = s * k .counts .roles + r in
       let l : i < assignmentUsed k = assign-place k f h s r e in
-      subst (λ (g : Frame). Holds (next k g) (add (held k a p q) g) a p q (set a i 1) p q) (sym e)
+      subst (λ (g : Frame). FrameStored k g (tables a p q) (tables (set a i 1) p q)) (sym e)
       (record {
         content = ap (λ (t : List ℕ). sheet (k .counts) t (take (permissionUsed k) p) (take (separationsUsed k) q)) (take-set-lt (assignmentUsed k) a i 1 l);
         assignment-past = drop-set-lt (assignmentUsed k) a i 1 l;
@@ -97,12 +97,12 @@ module _ (k : Passed) (f : Frame) (h : Passes k (Good f)) (a p q : List ℕ) whe
         separations-past = refl;
       })
 
-  pub permit-stored : (r o m : ℕ) → f ≡ Permit r o m → Holds (next k f) (add (held k a p q) f) a p q a (set p (r * k .counts .objects + o) m) q
+  pub permit-stored : (r o m : ℕ) → f ≡ Permit r o m → FrameStored k f (tables a p q) (tables a (set p (r * k .counts .objects + o) m) q)
   unfolding next add sheetOf
   permit-stored r o m e =
       let i : ℕ = r * k .counts .objects + o in
       let l : i < permissionUsed k = permit-place k f h r o m e in
-      subst (λ (g : Frame). Holds (next k g) (add (held k a p q) g) a p q a (set p i m) q) (sym e)
+      subst (λ (g : Frame). FrameStored k g (tables a p q) (tables a (set p i m) q)) (sym e)
       (record {
         content = ap (λ (t : List ℕ). sheet (k .counts) (take (assignmentUsed k) a) t (take (separationsUsed k) q)) (take-set-lt (permissionUsed k) p i m l);
         assignment-past = refl;
@@ -111,12 +111,12 @@ module _ (k : Passed) (f : Frame) (h : Passes k (Good f)) (a p q : List ℕ) whe
       })
 
   pub separate-stored : (x y : ℕ) → f ≡ Separate x y → 2 * k .separations + 1 < length q →
-      Holds (next k f) (add (held k a p q) f) a p q a p (set (set q (2 * k .separations) x) (2 * k .separations + 1) y)
+      FrameStored k f (tables a p q) (tables a p (set (set q (2 * k .separations) x) (2 * k .separations + 1) y))
   unfolding next add sheetOf
   separate-stored x y e room =
       let m : ℕ = separationsUsed k in
       let two : 2 * (k .separations + 1) ≡ suc (suc m) = omega arith in
-      subst (λ (g : Frame). Holds (next k g) (add (held k a p q) g) a p q a p (set (set q m x) (m + 1) y)) (sym e)
+      subst (λ (g : Frame). FrameStored k g (tables a p q) (tables a p (set (set q m x) (m + 1) y))) (sym e)
       (record {
         content = ap (λ (t : List ℕ). sheet (k .counts) (take (assignmentUsed k) a) (take (permissionUsed k) p) t) (rw (two, add-one) (pair-stored q m x y room));
         assignment-past = refl;
@@ -126,27 +126,26 @@ module _ (k : Passed) (f : Frame) (h : Passes k (Good f)) (a p q : List ℕ) whe
             (drop-set-lt (suc (suc m)) (set q m x) (suc m) y (omega arith) ∙ drop-set-lt (suc (suc m)) q m x (omega arith));
       })
 
-  pub end-stored : (v l : ℕ) → f ≡ End v l → Holds (next k f) (add (held k a p q) f) a p q a p q
+  pub end-stored : (v l : ℕ) → f ≡ End v l → FrameStored k f (tables a p q) (tables a p q)
   unfolding next add sheetOf
   end-stored v l e =
-      subst (λ (g : Frame). Holds (next k g) (add (held k a p q) g) a p q a p q) (sym e)
+      subst (λ (g : Frame). FrameStored k g (tables a p q) (tables a p q)) (sym e)
       (record { content = refl; assignment-past = refl; permission-past = refl; separations-past = refl })
 
 -- ---- a line that is no frame says nothing, and one that is a frame says that frame
-module _ (k : Passed) (x : Parsed) (a p q : List ℕ) where
-  pub no-bytes-stored : x ≡ NoBytes → LineStored k x k a p q a p q
+module _ (k : Passed) (x : Parsed) (t : Tables) where
+  pub no-bytes-stored : x ≡ NoBytes → LineStored k x k t t
   unfolding nextLine addAll framesOf
   no-bytes-stored e =
-      subst (λ (y : Parsed). LineStored k y k a p q a p q) (sym e)
+      subst (λ (y : Parsed). LineStored k y k t t) (sym e)
       (record { known = refl; holds = record { content = refl; assignment-past = refl; permission-past = refl; separations-past = refl } })
 
-  pub no-frame-stored : x ≡ NoFrame → LineStored k x k a p q a p q
+  pub no-frame-stored : x ≡ NoFrame → LineStored k x k t t
   unfolding nextLine addAll framesOf
   no-frame-stored e =
-      subst (λ (y : Parsed). LineStored k y k a p q a p q) (sym e)
+      subst (λ (y : Parsed). LineStored k y k t t) (sym e)
       (record { known = refl; holds = record { content = refl; assignment-past = refl; permission-past = refl; separations-past = refl } })
 
-  pub frame-stored : (f : Frame) (m : Passed) (a′ p′ q′ : List ℕ) → x ≡ Good f → m ≡ next k f →
-      Holds (next k f) (add (held k a p q) f) a p q a′ p′ q′ → LineStored k x m a p q a′ p′ q′
+  pub frame-stored : (f : Frame) (m : Passed) (t′ : Tables) → x ≡ Good f → m ≡ next k f → FrameStored k f t t′ → LineStored k x m t t′
   unfolding nextLine addAll framesOf
-  frame-stored f m a′ p′ q′ e em w = subst (λ (y : Parsed). LineStored k y m a p q a′ p′ q′) (sym e) (record { known = em; holds = w })
+  frame-stored f m t′ e em w = subst (λ (y : Parsed). LineStored k y m t t′) (sym e) (record { known = em; holds = w })

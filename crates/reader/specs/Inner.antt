@@ -1,19 +1,21 @@
 -- What the functions of the second pass tell each other. No promise: it only ties functions together.
 use Prim.Native.Nat.{ℕ, _*_, _^_, _≤_, _<_}
 use mathlib.Core.Path.{_≡_}
-use mathlib.Core.List.{List, [], _∷_}
+use mathlib.Core.List.{[], _∷_}
 use lib.ListN.{drop}
 use Rattle.answers.specs.Call.{firstRefusal}
 use Rattle.answers.specs.Sizes.{mostSubjects, mostObjects, mostRoles, mostSeparations}
-use Rattle.answers.specs.Sheet.{Sheet, lent, sheetOf}
+use Rattle.tables.specs.Sheet.{Sheet, lent, sheetOf}
+use Rattle.frames.specs.declared.Frame.{Frame}
 use Rattle.frames.specs.declared.Parsed.{Parsed}
 use Rattle.frames.specs.declared.Passed.{Passed}
-use Rattle.frames.specs.Check.{start, nextLine, lineRefusals, framesOf}
-use Rattle.text.specs.Content.{addAll}
+use Rattle.frames.specs.Check.{start, next, nextLine, lineRefusals, framesOf}
+use Rattle.text.specs.Content.{add, addAll}
+use Rattle.reader.specs.Fill.{Tables}
 
 -- the sheet that tables hold in the parts that k uses
-abbrev pub held : Passed → List ℕ → List ℕ → List ℕ → Sheet
-held k assignment permission separations = sheetOf (lent (k .counts) assignment permission) (k .separations) separations
+abbrev pub held : Passed → Tables → Sheet
+held k t = sheetOf (lent (k .counts) (t .assignment) (t .permission)) (k .separations) (t .separations)
 
 -- how many bytes of each table k uses
 abbrev pub assignmentUsed : Passed → ℕ
@@ -39,14 +41,18 @@ pub record Passes (k : Passed) (line : Parsed) : Type 0 where
   pub few-lines : k .lines < 2 ^ 63
   pub fine : firstRefusal (lineRefusals k line) ≡ 0
 
--- the tables came to hold t in the parts that k uses, and nothing past them changed
-pub record Holds (k : Passed) (t : Sheet) (a p s a′ p′ s′ : List ℕ) : Type 0 where
-  pub content : held k a′ p′ s′ ≡ t
-  pub assignment-past : drop (assignmentUsed k) a′ ≡ drop (assignmentUsed k) a
-  pub permission-past : drop (permissionUsed k) p′ ≡ drop (permissionUsed k) p
-  pub separations-past : drop (separationsUsed k) s′ ≡ drop (separationsUsed k) s
+-- the tables came to hold `said` in the parts that k uses, and nothing past them changed
+pub record Holds (k : Passed) (said : Sheet) (before after : Tables) : Type 0 where
+  pub content : held k after ≡ said
+  pub assignment-past : drop (assignmentUsed k) (after .assignment) ≡ drop (assignmentUsed k) (before .assignment)
+  pub permission-past : drop (permissionUsed k) (after .permission) ≡ drop (permissionUsed k) (before .permission)
+  pub separations-past : drop (separationsUsed k) (after .separations) ≡ drop (separationsUsed k) (before .separations)
+
+-- a frame was stored
+abbrev pub FrameStored : Passed → Frame → Tables → Tables → Type 0
+FrameStored k f before = Holds (next k f) (add (held k before) f) before
 
 -- a line was stored, and k′ is known after it
-pub record LineStored (k : Passed) (line : Parsed) (k′ : Passed) (a p s a′ p′ s′ : List ℕ) : Type 0 where
+pub record LineStored (k : Passed) (line : Parsed) (k′ : Passed) (before after : Tables) : Type 0 where
   pub known : k′ ≡ nextLine k line
-  pub holds : Holds (nextLine k line) (addAll (held k a p s) (framesOf (line ∷ []))) a p s a′ p′ s′
+  pub holds : Holds (nextLine k line) (addAll (held k before) (framesOf (line ∷ []))) before after

@@ -5,10 +5,10 @@ ghost use Prim.Native.Nat.{_+_, _*_, _≤_, _<_};
 ghost use lib.ListN.{length, drop, set, replicate};
 ghost use Rattle.frames.specs.declared.Parsed.the-variants.{Good};
 ghost use Rattle.frames.specs.declared.Verdict.the-variants.{Accepted};
-ghost use Rattle.frames.specs.Check.{start, next, check, parsedLines, framesOf};
-ghost use Rattle.text.specs.Content.{add, contentOf};
-ghost use Rattle.reader.specs.Fill.{Long, Filled};
-ghost use Rattle.reader.specs.Inner.{held, Passes, Holds, LineStored};
+ghost use Rattle.frames.specs.Check.{start, check, parsedLines, framesOf};
+ghost use Rattle.text.specs.Content.{contentOf};
+ghost use Rattle.reader.specs.Fill.{tables, atEntry, atExit, Long, Filled};
+ghost use Rattle.reader.specs.Inner.{Passes, FrameStored, LineStored};
 
 // The first bytes become 0, as many as a table of so many rows has.
 fn clear(table: &mut [u8], rows: usize, width: usize)
@@ -51,8 +51,8 @@ fn store_frame(
     separations: &mut [u8],
 )
     requires { ⌜ Passes k (Good f) ⌝ }
-    requires { ⌜ Long (now assignment) (now permission) (now separations) ⌝ }
-    ensures { λ r. ⌜ Holds (next k f) (add (held k (now (assignment .entry)) (now (permission .entry)) (now (separations .entry))) f) (now (assignment .entry)) (now (permission .entry)) (now (separations .entry)) (now (assignment .exit)) (now (permission .exit)) (now (separations .exit)) ⌝ }
+    requires { ⌜ Long (tables (now assignment) (now permission) (now separations)) ⌝ }
+    ensures { λ r. ⌜ FrameStored k f (atEntry assignment permission separations) (atExit assignment permission separations) ⌝ }
 {
     let c = k.counts;
     match f {
@@ -82,15 +82,15 @@ fn store_line(
     separations: &mut [u8],
 ) -> frames::Passed
     requires { ⌜ Passes k line ⌝ }
-    requires { ⌜ Long (now assignment) (now permission) (now separations) ⌝ }
-    ensures { λ r. ⌜ LineStored k line r (now (assignment .entry)) (now (permission .entry)) (now (separations .entry)) (now (assignment .exit)) (now (permission .exit)) (now (separations .exit)) ⌝ }
+    requires { ⌜ Long (tables (now assignment) (now permission) (now separations)) ⌝ }
+    ensures { λ r. ⌜ LineStored k line r (atEntry assignment permission separations) (atExit assignment permission separations) ⌝ }
 {
     match line {
         frames::Parsed::NoBytes => k,
         frames::Parsed::NoFrame => k,
         frames::Parsed::Good(f) => {
             store_frame(k, f, assignment, permission, separations);
-            frames::state_after(k, f)
+            checking::state_after(k, f)
         }
     }
 }
@@ -98,13 +98,13 @@ fn store_line(
 // What an accepted text says, into the tables.
 pub fn fill(text: &[u8], assignment: &mut [u8], permission: &mut [u8], separations: &mut [u8])
     requires { ⌜ check start (parsedLines (now text)) ≡ Accepted ⌝ }
-    requires { ⌜ Long (now assignment) (now permission) (now separations) ⌝ }
-    ensures { λ r. ⌜ Filled (contentOf (framesOf (parsedLines (now (text .entry))))) (now (assignment .entry)) (now (permission .entry)) (now (separations .entry)) (now (assignment .exit)) (now (permission .exit)) (now (separations .exit)) ⌝ }
+    requires { ⌜ Long (tables (now assignment) (now permission) (now separations)) ⌝ }
+    ensures { λ r. ⌜ Filled (contentOf (framesOf (parsedLines (now (text .entry))))) (atEntry assignment permission separations) (atExit assignment permission separations) ⌝ }
 {
-    let mut k = frames::start_state();
+    let mut k = checking::start_state();
     let mut p = 0;
     while p < text.len() {
-        let found = frames::parse_at(text, p);
+        let found = parsing::parse_at(text, p);
         let line = found.parsed;
         k = store_line(k, line, assignment, permission, separations);
         p = found.next;

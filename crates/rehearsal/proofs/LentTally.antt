@@ -38,20 +38,20 @@ use denote.Triple.Call.{calls-at}
 use denote.Triple.Clauses.{Clauses, Ended, closing, ensured, lasts}
 use denote.Triple.Walked.{says, Stays, stay-dropped, gave-slice, stay-ref, walkOf, AllGo, goes-dropped, goes-gave-slice, goes-ref, Walks, ends-at, walked, walk-meets}
 use denote.Exit.{yes}
-use Rattle.answers.specs.declared.Counts.{Counts}
-use Rattle.answers.specs.Sheet.{Lent, lent}
+use Rattle.tables.specs.declared.Counts.{Counts}
+use Rattle.tables.specs.Sheet.{Lent, lent}
 use Rattle.transfers.specs.declared.Tally.{Tally}
-use Rattle.transfers.specs.declared.Tallied.{Tallied}
+use Rattle.runs.specs.declared.Tallied.{Tallied}
 use Rattle.transfers.specs.Rehearse.{Rehearsed}
-use Rattle.transfers.specs.Inner.{rehearsedTo, rehearsedWith}
-use Rattle.answers.proofs.Counts as C
-use Rattle.answers.proofs.Counts.Laws as C′
+use Rattle.rehearsal.specs.Calls.{rehearsedTo, rehearsedWith}
+use Rattle.tables.proofs.Counts as C
+use Rattle.tables.proofs.Counts.Laws as C′
 use Rattle.answers.proofs.Told as N
 use Rattle.answers.proofs.Told.Laws as N′
 use Rattle.transfers.proofs.Tally as A
 use Rattle.transfers.proofs.Tally.Laws as A′
-use Rattle.transfers.proofs.Tallied as O
-use Rattle.transfers.proofs.Tallied.Laws as O′
+use Rattle.runs.proofs.Tallied as O
+use Rattle.runs.proofs.Tallied.Laws as O′
 
 -- the two signatures, by the type of the list's elements
 abbrev byValue : RattleType → Ended

@@ -1,4 +1,15 @@
--- What the walks of the calls share. The walks themselves are done by hand, since the borrow checker covers no reference to a struct.
+-- What holds of the calls: one answer, both entries alike, and demand 3. Read in this order.
+pub mod Determined
+pub mod Accepted
+pub mod Entries
+pub mod SameAnswers
+pub mod ShownChain
+pub mod SmallSheet
+pub mod SmallCalls
+pub mod Instances
+pub mod RefusalOrder
+-- For the proofs of functions. The walks are done by hand, since the borrow checker covers no reference to a struct.
+pub mod Settled
 pub mod Again
 pub mod Loop
 pub mod LocalBytes

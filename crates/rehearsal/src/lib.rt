@@ -1,16 +1,16 @@
-// The calls of a rehearsal, of flat bytes and of records, each with a tally that is lent.
-use answers::Counts;
+// The calls of a rehearsal, of flat bytes and of records, each with a tally that is lent, and of flat bytes with a tally by value.
 use answers::Told;
 use answers::sizes;
-use transfers::Progress;
-use transfers::Tallied;
+use runs::Tallied;
+use steps::Progress;
+use tables::Counts;
 use transfers::Tally;
 use transfers::Transfer;
 ghost use mathlib.Core.Path.{_≡_};
-ghost use Rattle.answers.specs.Rows.{Bytes};
-ghost use Rattle.answers.specs.Sheet.{entities, lent};
-ghost use Rattle.transfers.specs.Rehearse.{newTally, RehearsesFlat, RehearsesRecords};
-ghost use Rattle.transfers.specs.Inner.{rehearsedTo, rehearsedWith, Ran};
+ghost use Rattle.transfers.specs.Rehearse.{newTally};
+ghost use Rattle.rehearsal.specs.Calls.{RehearsesFlat, RehearsesRecords, WithTally, WithLentTally};
+ghost use Rattle.steps.specs.Inner.{state};
+ghost use Rattle.runs.specs.Inner.{Ran};
 ghost use Rattle.rehearsal.specs.Inner.{Started};
 
 // A tally before its first rehearsal.
@@ -24,6 +24,35 @@ pub fn new_tally() -> Tally
     }
 }
 
+// ---- flat bytes
+
+// Rehearses flat bytes, with the tally by value.
+pub fn rehearse_tallied(
+    counts: Counts,
+    assignment: &[u8],
+    permission: &[u8],
+    transfers: &[u8],
+    marks: &mut [u32],
+    verdicts: &mut [u8],
+    tally: Tally,
+) -> Tallied
+    ensures { λ r. ⌜ WithTally RehearsesFlat counts assignment permission transfers marks verdicts tally r ⌝ }
+{
+    let mut channels = [0u8; sizes::LEAST_FLOW];
+    let begun = runs::begin(
+        counts,
+        assignment,
+        permission,
+        transfers.len(),
+        marks.len(),
+        verdicts.len(),
+        tally,
+        &mut channels,
+    );
+    let p = runs::run(&channels, counts, transfers, marks, verdicts, begun);
+    runs::finish(p, tally)
+}
+
 // Rehearses flat bytes, three for each transfer. The tally is raised once.
 pub fn rehearse(
     counts: Counts,
@@ -34,9 +63,9 @@ pub fn rehearse(
     verdicts: &mut [u8],
     tally: &mut Tally,
 ) -> Told
-    ensures { λ r. ⌜ RehearsesFlat (lent counts (now (assignment .entry)) (now (permission .entry))) (now (transfers .entry)) (now (marks .entry)) (now (verdicts .entry)) (now (tally .entry)) (rehearsedWith r (now (marks .exit)) (now (verdicts .exit)) (now (tally .exit))) ⌝ }
+    ensures { λ r. ⌜ WithLentTally RehearsesFlat counts assignment permission transfers marks verdicts tally r ⌝ }
 {
-    let out = transfers::rehearse_tallied(
+    let out = rehearse_tallied(
         counts,
         assignment,
         permission,
@@ -49,6 +78,8 @@ pub fn rehearse(
     out.told
 }
 
+// ---- records
+
 // Makes the transfers of a rehearsal that is begun, one record after the other.
 fn run_records(
     channels: &[u8],
@@ -59,13 +90,13 @@ fn run_records(
     begun: Progress,
 ) -> Progress
     requires { ⌜ Started counts (now channels) (now records) (now marks) (now verdicts) begun ⌝ }
-    ensures { λ r. ⌜ Ran counts (Bytes (entities counts) (now (channels .entry))) (now (records .entry)) (begun .count) (now (marks .entry)) (now (verdicts .entry)) begun (now (marks .exit)) (now (verdicts .exit)) r ⌝ }
+    ensures { λ r. ⌜ Ran counts (now (channels .entry)) (now (records .entry)) (begun .count) (state (marks .entry) (verdicts .entry) begun) (state (marks .exit) (verdicts .exit) r) ⌝ }
 {
     let count = begun.count;
     let mut p = begun;
     let mut k = 0;
     while k < count {
-        p = transfers::step_record(channels, counts, marks, verdicts, k, records[k], p);
+        p = steps::step_record(channels, counts, marks, verdicts, k, records[k], p);
         k += 1;
     }
     p
@@ -81,10 +112,10 @@ fn records_tallied(
     verdicts: &mut [u8],
     tally: Tally,
 ) -> Tallied
-    ensures { λ r. ⌜ RehearsesRecords (lent counts (now (assignment .entry)) (now (permission .entry))) (now (records .entry)) (now (marks .entry)) (now (verdicts .entry)) tally (rehearsedTo r (now (marks .exit)) (now (verdicts .exit))) ⌝ }
+    ensures { λ r. ⌜ WithTally RehearsesRecords counts assignment permission records marks verdicts tally r ⌝ }
 {
     let mut channels = [0u8; sizes::LEAST_FLOW];
-    let begun = transfers::begin_records(
+    let begun = runs::begin_records(
         counts,
         assignment,
         permission,
@@ -95,7 +126,7 @@ fn records_tallied(
         &mut channels,
     );
     let p = run_records(&channels, counts, records, marks, verdicts, begun);
-    transfers::finish(p, tally)
+    runs::finish(p, tally)
 }
 
 // Rehearses a list of records, lent as they stand. The tally is raised once.
@@ -108,7 +139,7 @@ pub fn rehearse_records(
     verdicts: &mut [u8],
     tally: &mut Tally,
 ) -> Told
-    ensures { λ r. ⌜ RehearsesRecords (lent counts (now (assignment .entry)) (now (permission .entry))) (now (records .entry)) (now (marks .entry)) (now (verdicts .entry)) (now (tally .entry)) (rehearsedWith r (now (marks .exit)) (now (verdicts .exit)) (now (tally .exit))) ⌝ }
+    ensures { λ r. ⌜ WithLentTally RehearsesRecords counts assignment permission records marks verdicts tally r ⌝ }
 {
     let out = records_tallied(
         counts,

@@ -11,10 +11,10 @@ use Rattle.answers.specs.declared.Told.{Told}
 use Rattle.answers.specs.Call.{firstRefusal, told}
 use Rattle.answers.specs.Rows.{Bytes}
 use Rattle.answers.specs.Sizes.{leastFlow, leastAssignment, leastPermission, leastSeparations}
-use Rattle.answers.specs.Sheet.{Lent, Sound, sheetIn, sheetOf, entities}
+use Rattle.tables.specs.Sheet.{Lent, Sound, sheetIn, sheetOf, entities}
 use Rattle.answers.proofs.Calls.{passed, refuse, accept}
-use Rattle.answers.proofs.Accepted.{tables-pass}
-use Rattle.answers.proofs.Sounds.{sized-of, listed-of}
+use Rattle.tables.proofs.Accepted.{tables-pass}
+use Rattle.tables.proofs.Sounds.{sized-of, listed-of, entities-fit}
 use Rattle.theory.proofs.Orders.{agree-turned}
 use Rattle.digits.specs.Line.{lineOf}
 use Rattle.digits.specs.Inner.{Put}
@@ -24,19 +24,18 @@ use Rattle.text.proofs.RoundTrip.{accepted-sound}
 use Rattle.text.proofs.RefusedLines.{refused-line-fits}
 use Rattle.sheet.specs.Read.{ReadResult, readResult, Reads}
 use Rattle.sheet.specs.RoundTrip.{tablesIn, sheetRead}
-use Rattle.reader.specs.Fill.{Long}
+use Rattle.reader.specs.Fill.{Tables, Long}
 use Rattle.sheet.proofs.ReadDone.{lengths-pass, ReadDone}
 use Rattle.sheet.proofs.Calls.{sheet-back}
 use Rattle.access.specs.Channel.{Channel}
-use Rattle.access.proofs.Filling.{entities-fit}
 use Rattle.flow.specs.Fill.{fillRefusals, FlowFilled, Fills}
-use Rattle.flow.specs.Inner.{Accepted}
+use Rattle.tables.specs.Inner.{SoundFlow}
 use Rattle.flow.proofs.Filled.{filled-agrees}
 use Rattle.flow.proofs.Unrefused.{filled-accepted}
-use Rattle.report.specs.Output.{EntityLines, VerdictLine, SheetLines, refusalLine, refusal, sheet-lines, Output}
+use Rattle.output.specs.Output.{EntityLines, VerdictLine, SheetLines, refusalLine, refusal, sheet-lines, Output}
 use Rattle.report.specs.Report.{leastOutput, reportRefusals, Reports}
 use Rattle.report.specs.Inner.{PutLine, PutOutput, Printable}
-use Rattle.report.proofs.EachLine.{lines-agree}
+use Rattle.output.proofs.LineLaws.{lines-agree}
 use Rattle.report.proofs.VerdictLines.{verdict-used}
 use Rattle.report.proofs.Sizes.{output-fits}
 
@@ -48,7 +47,7 @@ module _ (l : Lent) (count : ℕ) (separations : List ℕ) (p : Printable l coun
   is-filled = call .done (tables-pass _ _ l (record { not-short = le-ltb _ _ room; not-long = refl; sized = p .sized })) .1
 
   -- and can be asked
-  pub is-accepted : leastFlow ≤ length table → Accepted (entities (l .counts)) table
+  pub is-accepted : leastFlow ≤ length table → SoundFlow (entities (l .counts)) table
   unfolding sheetOf
   is-accepted long = filled-accepted (sheetIn l) before table is-filled (entities-fit l (p .sized)) long
 
@@ -71,12 +70,12 @@ module _ (l : Lent) (count : ℕ) (separations : List ℕ) (p : Printable l coun
       }
 
 -- ---- what was read
-module _ (text assignment permission separations : List ℕ) (long : Long assignment permission separations) (result : ReadResult) (r : Reads text assignment permission separations result) where
+module _ (text : List ℕ) (lent : Tables) (long : Long lent) (result : ReadResult) (r : Reads text lent result) where
   pub is-refused : result .reading .answer ≢ 0 → readText text ≡ refused (result .reading .answer) (result .reading .line)
   unfolding readResult
-  is-refused some = go (readText text) (r .done (lengths-pass assignment permission separations long))
+  is-refused some = go (readText text) (r .done (lengths-pass lent long))
     where
-      go : (x : Read) → result ≡ readResult assignment permission separations x → x ≡ refused (result .reading .answer) (result .reading .line)
+      go : (x : Read) → result ≡ readResult lent x → x ≡ refused (result .reading .answer) (result .reading .line)
       go (refused n line) e = rw e
       go (accepted t) e = absurd (some (ap (λ (x : ReadResult). x .reading .answer) e))
 
@@ -84,9 +83,9 @@ module _ (text assignment permission separations : List ℕ) (long : Long assign
   line-fits some = omega (arith, refused-line-fits text _ _ (is-refused some))
 
 -- the tables of an accepted text are those of its sheet
-module _ {text assignment permission separations : List ℕ} {result : ReadResult} (d : ReadDone assignment permission separations text result) where
+module _ {text : List ℕ} {lent : Tables} {result : ReadResult} (d : ReadDone lent text result) where
   same-sheet : sheetRead result ≡ d .sheet
-  same-sheet = ap sheetRead (d .filled) ∙ sheet-back assignment permission separations (d .sheet) (accepted-sound text (d .reads))
+  same-sheet = ap sheetRead (d .filled) ∙ sheet-back lent (d .sheet) (accepted-sound text (d .reads))
 
   sound : Sound (sheetRead result)
   sound = rw same-sheet (accepted-sound text (d .reads))
@@ -94,12 +93,12 @@ module _ {text assignment permission separations : List ℕ} {result : ReadResul
   few : 2 * (result .reading .separations) ≤ leastSeparations
   few = rw (d .filled) (omega (arith, accepted-sound text (d .reads) .separations-size, accepted-sound text (d .reads) .separations-fit))
 
-  pub is-printable : leastAssignment ≤ length (result .assignment) → leastPermission ≤ length (result .permission) → leastSeparations ≤ length (result .separations) →
-      Printable (tablesIn result) (result .reading .separations) (result .separations)
+  pub is-printable : leastAssignment ≤ length (result .tables .assignment) → leastPermission ≤ length (result .tables .permission) → leastSeparations ≤ length (result .tables .separations) →
+      Printable (tablesIn result) (result .reading .separations) (result .tables .separations)
   is-printable a p s =
       record {
-        sized = sized-of (tablesIn result) _ (result .separations) sound a p;
-        listed = listed-of (tablesIn result) _ (result .separations) sound (omega (arith, few));
+        sized = sized-of (tablesIn result) _ (result .tables .separations) sound a p;
+        listed = listed-of (tablesIn result) _ (result .tables .separations) sound (omega (arith, few));
         long = s;
       }
 
@@ -123,7 +122,7 @@ module _ (text before : List ℕ) where
         Reports text before (told 0 next, after)
     refused-reported n line e = reported (rw e (refusal refl))
 
-    pub sheet-reported : {assignment permission separations : List ℕ} {result : ReadResult} {next : ℕ} {after : List ℕ} → ReadDone assignment permission separations text result →
+    pub sheet-reported : {lent : Tables} {result : ReadResult} {next : ℕ} {after : List ℕ} → ReadDone lent text result →
         PutOutput (SheetLines (sheetRead result)) before next after → Reports text before (told 0 next, after)
     sheet-reported d p = reported (sheet-printed d (p .right)) (p .put)
 

@@ -4,13 +4,13 @@ use mathlib.Core.Path.{_≡_, refl}
 use mathlib.Core.List.{List}
 use native.Mathlib.Omega.{arith}
 use lib.ListN.{length, length-append}
-use Rattle.answers.specs.Sheet.{Sheet, Sound}
+use Rattle.tables.specs.Sheet.{Sheet, Sound}
 use Rattle.digits.proofs.Puts.{line-long}
 use Rattle.text.specs.Reading.{Read, accepted}
 use Rattle.text.proofs.RoundTrip.{accepted-sound}
-use Rattle.report.specs.Output.{SheetLines, refusalLine, Printed, refusal, sheet-lines, Output}
+use Rattle.output.specs.Output.{SheetLines, refusalLine, Printed, refusal, sheet-lines, Output}
 use Rattle.report.specs.Report.{leastOutput}
-use Rattle.report.proofs.EachLine.{lines-long}
+use Rattle.output.proofs.LineLaws.{lines-long}
 use Rattle.report.proofs.VerdictLines.{line-short}
 
 refusal-long : (n line : ℕ) → length (refusalLine n line) ≡ 9

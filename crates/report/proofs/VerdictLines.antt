@@ -10,16 +10,17 @@ use lib.ListN.{length, take}
 use lib.Seq.{getD-take, length-take-le}
 use Rattle.answers.specs.Call.{firstRefusal}
 use Rattle.answers.specs.Sizes.{mostSubjects, leastChain}
-use Rattle.answers.specs.Sheet.{Lent, Sheet, sheetOf, from, to}
+use Rattle.tables.specs.Sheet.{Lent, Sheet, sheetOf, from, to}
 use Rattle.answers.proofs.Calls.{pass-then}
-use Rattle.answers.proofs.Accepted.{sheet-numbered, tables-pass, separations-pass}
+use Rattle.tables.proofs.Accepted.{sheet-numbered, tables-pass, separations-pass}
 use Rattle.access.specs.Channel.{Channel}
 use Rattle.sheet.proofs.Calls.{used-part}
-use Rattle.verdict.specs.declared.Judged.{Judged}
-use Rattle.verdict.specs.Judge.{FirstBroken, Verdict, hold as holds, broken as breaks, judgeRefusals, Judges, Finding}
+use Rattle.separations.specs.declared.Judged.{Judged}
+use Rattle.separations.specs.Verdict.{FirstBroken, Verdict, hold as holds, broken as breaks, Finding}
+use Rattle.verdict.specs.Judge.{judgeRefusals, Judges}
 use Rattle.verdict.proofs.Findings.{finding, holding}
-use Rattle.verdict.proofs.Longest.{at-most-97}
-use Rattle.report.specs.Output.{VerdictLine, hold, broken}
+use Rattle.access.proofs.Longest.{at-most-97}
+use Rattle.output.specs.Output.{VerdictLine, hold, broken}
 use Rattle.report.specs.Inner.{Printable}
 
 -- ---- what `judge` tells

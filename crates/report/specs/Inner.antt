@@ -3,11 +3,12 @@ use Prim.Native.Nat.{ℕ, _+_, _≤_, _<_}
 use mathlib.Core.List.{List}
 use lib.ListN.{length}
 use Rattle.answers.specs.Sizes.{leastSeparations}
-use Rattle.answers.specs.Sheet.{Lent, entities}
-use Rattle.answers.specs.Inner.{Sized, Listed}
+use Rattle.tables.specs.Sheet.{Lent, entities, sheetOf}
+use Rattle.tables.specs.Inner.{Sized, Listed, SoundFlow}
 use Rattle.digits.specs.Line.{lineOf}
 use Rattle.digits.specs.Inner.{Put}
-use Rattle.flow.specs.Inner.{Accepted}
+use Rattle.access.specs.Channel.{Channel}
+use Rattle.output.specs.Output.{VerdictLine, SheetLines}
 
 -- the line of bytes that are right is written
 pub record PutLine (Right : List ℕ → Type 0) (at : ℕ) (before : List ℕ) (next : ℕ) (after : List ℕ) : Type 0 where
@@ -23,7 +24,7 @@ pub record PutOutput (Right : List ℕ → Type 0) (before : List ℕ) (next : �
 
 -- a flow table, one of its entities, and a buffer with room for its line
 pub record Describable (n : ℕ) (table : List ℕ) (x at : ℕ) (out : List ℕ) : Type 0 where
-  pub accepted : Accepted n table
+  pub accepted : SoundFlow n table
   pub entity : x < n
   pub room : at + 11 ≤ length out
 
@@ -32,3 +33,11 @@ pub record Printable (l : Lent) (count : ℕ) (separations : List ℕ) : Type 0 
   pub sized : Sized l
   pub listed : Listed (entities (l .counts)) count separations
   pub long : leastSeparations ≤ length separations
+
+-- the line of the verdict on them is written
+abbrev pub PutVerdict : Lent → ℕ → List ℕ → ℕ → List ℕ → ℕ → List ℕ → Type 0
+PutVerdict l count separations = PutLine (VerdictLine (Channel (sheetOf l count separations)) count separations)
+
+-- the whole output for them is written
+abbrev pub PutSheet : Lent → ℕ → List ℕ → List ℕ → ℕ → List ℕ → Type 0
+PutSheet l count separations = PutOutput (SheetLines (sheetOf l count separations))

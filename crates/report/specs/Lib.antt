@@ -1,4 +1,3 @@
--- "The program and its whole output".
-pub mod Output
+-- `report`: the whole output, in a buffer.
 pub mod Report
 pub mod Inner

@@ -6,7 +6,7 @@ use lib.ListN.{length}
 use Rattle.answers.specs.declared.Told.{Told}
 use Rattle.answers.specs.Call.{Refusal, _if_, Outcome, told, toldAndLeft}
 use Rattle.answers.specs.Rows.{over, shorter}
-use Rattle.report.specs.Output.{Output}
+use Rattle.output.specs.Output.{Output}
 
 -- our own point: the longest output has 112 lines 81 of 11 bytes and one line 82 of 203, whose chain has 97 entities
 abbrev pub leastOutput : ℕ

@@ -1,20 +1,19 @@
 // The whole output of the program for a text.
-use answers::Counts;
 use answers::Told;
 use answers::sizes;
+use tables::Counts;
 ghost use mathlib.Core.List.{_∷_};
 ghost use Prim.Native.Nat.{_+_, _*_, _<_, _≤_};
 ghost use lib.ListN.{length, take};
 ghost use Rattle.answers.specs.Rows.{Bytes};
-ghost use Rattle.answers.specs.Sheet.{lent, sheetOf};
+ghost use Rattle.tables.specs.Sheet.{lent};
 ghost use Rattle.theory.specs.Order.{LabelSize};
 ghost use Rattle.digits.specs.Line.{lineOf};
 ghost use Rattle.digits.specs.Inner.{Put};
-ghost use Rattle.access.specs.Channel.{Channel};
-ghost use Rattle.flow.specs.Inner.{Accepted};
-ghost use Rattle.report.specs.Output.{EntityLine, EntityLines, VerdictLine, SheetLines, refusalLine};
+ghost use Rattle.tables.specs.Inner.{SoundFlow};
+ghost use Rattle.output.specs.Output.{EntityLine, EntityLines, refusalLine};
 ghost use Rattle.report.specs.Report.{leastOutput, Reports};
-ghost use Rattle.report.specs.Inner.{PutLine, PutOutput, Describable, Printable};
+ghost use Rattle.report.specs.Inner.{PutLine, PutOutput, Describable, Printable, PutVerdict, PutSheet};
 
 pub const LEAST_OUTPUT: usize = 1435;
 
@@ -28,12 +27,11 @@ const VERDICT: u8 = 0x82;
 
 // How many entities the label of `x` has.
 fn label_size(n: usize, table: &[u8], x: usize) -> usize
-    requires { ⌜ Accepted n (now table) × (x < n) ⌝ }
+    requires { ⌜ SoundFlow n (now table) × (x < n) ⌝ }
     ensures { λ r. ⌜ LabelSize n (Bytes n (now (table .entry))) x r ⌝ }
 {
     let mut label = [0u8; sizes::LEAST_LABEL];
-    let told = flow::label(n, table, x, &mut label);
-    told.value
+    labels::fill_label(n, table, x, &mut label)
 }
 
 // The line of entity `x` by the flow table; the answer is the place past it.
@@ -41,22 +39,16 @@ fn put_entity(out: &mut [u8], at: usize, n: usize, table: &[u8], x: usize) -> us
     requires { ⌜ Describable n (now table) x at (now out) ⌝ }
     ensures { λ r. ⌜ PutLine (EntityLine n (Bytes n (now (table .entry))) x) at (now (out .entry)) r (now (out .exit)) ⌝ }
 {
-    let class = flow::class_name(n, table, x);
-    let flags = flow::greatest(n, table, x);
+    let class = labels::smallest_member(n, table, x);
+    let flags = labels::flags(n, table, x);
     let size = label_size(n, table, x);
-    let line = [
-        ENTITY,
-        x as u8,
-        class.value as u8,
-        flags.value as u8,
-        size as u8,
-    ];
+    let line = [ENTITY, x as u8, class as u8, flags as u8, size as u8];
     digits::put_line(out, at, &line)
 }
 
 // The lines of all entities, at the start of the buffer.
 fn put_entities(out: &mut [u8], n: usize, table: &[u8]) -> usize
-    requires { ⌜ Accepted n (now table) × (11 * n ≤ length (now out)) ⌝ }
+    requires { ⌜ SoundFlow n (now table) × (11 * n ≤ length (now out)) ⌝ }
     ensures { λ r. ⌜ PutOutput (EntityLines n (Bytes n (now (table .entry))) n) (now (out .entry)) r (now (out .exit)) ⌝ }
 {
     let mut at = 0;
@@ -92,7 +84,7 @@ fn put_verdict(
 ) -> usize
     requires { ⌜ Printable (lent counts (now assignment) (now permission)) count (now separations) ⌝ }
     requires { ⌜ at + 203 ≤ length (now out) ⌝ }
-    ensures { λ r. ⌜ PutLine (VerdictLine (Channel (sheetOf (lent counts (now (assignment .entry)) (now (permission .entry))) count (now (separations .entry)))) count (now (separations .entry))) at (now (out .entry)) r (now (out .exit)) ⌝ }
+    ensures { λ r. ⌜ PutVerdict (lent counts (now (assignment .entry)) (now (permission .entry))) count (now (separations .entry)) at (now (out .entry)) r (now (out .exit)) ⌝ }
 {
     let mut chain = [0u8; sizes::LEAST_CHAIN];
     let judged = verdict::judge(
@@ -123,7 +115,7 @@ fn put_sheet(
 ) -> usize
     requires { ⌜ Printable (lent counts (now assignment) (now permission)) count (now separations) ⌝ }
     requires { ⌜ leastOutput ≤ length (now out) ⌝ }
-    ensures { λ r. ⌜ PutOutput (SheetLines (sheetOf (lent counts (now (assignment .entry)) (now (permission .entry))) count (now (separations .entry)))) (now (out .entry)) r (now (out .exit)) ⌝ }
+    ensures { λ r. ⌜ PutSheet (lent counts (now (assignment .entry)) (now (permission .entry))) count (now (separations .entry)) (now (out .entry)) r (now (out .exit)) ⌝ }
 {
     let n = counts.subjects + counts.objects;
     let mut table = [0u8; sizes::LEAST_FLOW];

@@ -8,9 +8,9 @@ use lib.ListN.{length, take, length-append}
 use lib.Seq.{sets-eq}
 use Rattle.answers.specs.Sizes.{leastText}
 use Rattle.answers.specs.Rows.{over}
-use Rattle.answers.specs.Sheet.{Lent, sheetOf}
+use Rattle.tables.specs.Sheet.{Lent, sheetOf}
 use Rattle.answers.proofs.Products.{product-within}
-use Rattle.answers.proofs.Sounds.{sound-of}
+use Rattle.tables.proofs.Sounds.{sound-of}
 use Rattle.frames.specs.declared.Frame.{Frame}
 use Rattle.frames.specs.declared.Frame.the-variants.{Header}
 use Rattle.frames.specs.Frame.{textOf}

@@ -7,8 +7,8 @@ use lib.ListN.{length}
 use lib.Seq.{sets}
 use Rattle.answers.specs.Sizes.{leastSeparations, leastText}
 use Rattle.answers.specs.Rows.{over}
-use Rattle.answers.specs.Sheet.{Lent, Sheet, entities}
-use Rattle.answers.specs.Inner.{Sized, Listed}
+use Rattle.tables.specs.Sheet.{Lent, Sheet, entities}
+use Rattle.tables.specs.Inner.{Sized, Listed}
 use Rattle.frames.specs.declared.Frame.{Frame}
 use Rattle.frames.specs.Frame.{textOf}
 use Rattle.text.specs.Content.{assignAt, permitAt, writeSheet}

@@ -1,10 +1,10 @@
 // The text of a sheet, written from its tables.
-use answers::Counts;
+use tables::Counts;
 ghost use mathlib.Core.Path.{_≡_};
 ghost use mathlib.Core.List.{[], _∷_};
 ghost use Prim.Native.Nat.{_+_, _*_, _<_, _≤_};
 ghost use lib.ListN.{length, take};
-ghost use Rattle.answers.specs.Sheet.{lent, sheetOf};
+ghost use Rattle.tables.specs.Sheet.{lent, sheetOf};
 ghost use Rattle.digits.specs.Line.{lineOf};
 ghost use Rattle.digits.specs.Inner.{Put};
 ghost use Rattle.frames.specs.declared.Frame.the-variants.{Header};

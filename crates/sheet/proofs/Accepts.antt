@@ -2,7 +2,6 @@
 -- length.
 use Prim.Native.Nat.{ℕ, _*_, _≤_}
 use mathlib.Core.Path.{_≡_, refl}
-use mathlib.Core.Bool.{Bool, true, false, _||_, true≢false}
 use mathlib.Core.List.{List}
 use native.Mathlib.Omega.{arith}
 use borrow.Author.Tests.{ltb-false, le-ltb}
@@ -10,10 +9,12 @@ use lib.ListN.{length}
 use Rattle.answers.specs.Call.{firstRefusal}
 use Rattle.answers.specs.Rows.{shorter}
 use Rattle.answers.specs.Sizes.{leastAssignment, leastPermission, leastSeparations, leastText}
-use Rattle.answers.specs.Sheet.{Lent, Sound, sheetOf}
 use Rattle.answers.proofs.Calls.{passed-then, pass-then}
-use Rattle.answers.proofs.Accepted.{sheet-numbered, tables-passed, tables-pass, separations-passed, separations-pass}
-use Rattle.answers.proofs.Sounds.{sound-of, sized-of, listed-of}
+use Rattle.answers.proofs.Joined.{neither}
+use Rattle.tables.specs.Sheet.{Lent, Sound, sheetOf}
+use Rattle.tables.specs.Refusals.{noList}
+use Rattle.tables.proofs.Accepted.{sheet-numbered, tables-passed, tables-pass, separations-passed, separations-pass}
+use Rattle.tables.proofs.Sounds.{sound-of, sized-of, listed-of}
 use Rattle.sheet.specs.Write.{writeRefusals}
 
 -- "Least lent lengths" of the buffers that `write` is lent
@@ -23,17 +24,13 @@ pub record Long (l : Lent) (separations text : List ℕ) : Type 0 where
   pub separations-long : leastSeparations ≤ length separations
   pub text-long : leastText ≤ length text
 
-none-short : (a b : Bool) → a || b ≡ false → (a ≡ false) × (b ≡ false)
-none-short true b e = absurd (true≢false e)
-none-short false b e = (refl, e)
-
 module _ (l : Lent) (count : ℕ) (separations text : List ℕ) where
   pub refuses-none : Sound (sheetOf l count separations) → 2 * count ≤ length separations → Long l separations text →
       firstRefusal (writeRefusals l count separations text) ≡ 0
   unfolding writeRefusals
   refuses-none p room long =
-      pass-then _ _ (sheet-numbered _ false l)
-      (tables-pass _ false l
+      pass-then _ _ (sheet-numbered _ noList l)
+      (tables-pass _ noList l
       (record {
         not-short = rw (le-ltb _ _ (long .separations-long), le-ltb _ _ (long .text-long));
         not-long = refl;
@@ -44,9 +41,9 @@ module _ (l : Lent) (count : ℕ) (separations text : List ℕ) where
   pub refused-none : firstRefusal (writeRefusals l count separations text) ≡ 0 → Sound (sheetOf l count separations) × (2 * count ≤ length separations) × Long l separations text
   unfolding writeRefusals
   refused-none e =
-      let parts = passed-then _ _ (sheet-numbered _ false l) e in
-      let tables = tables-passed _ false l (parts .0) in
-      let short = none-short (shorter separations leastSeparations) (shorter text leastText) (tables .not-short) in
+      let parts = passed-then _ _ (sheet-numbered _ noList l) e in
+      let tables = tables-passed _ noList l (parts .0) in
+      let short = neither (shorter separations leastSeparations) (shorter text leastText) (tables .not-short) in
       let listed = separations-passed _ separations count (parts .1) in
       let room : leastSeparations ≤ length separations = ltb-false _ _ (short .0) in (
         sound-of l count separations (tables .sized) (omega (arith, listed .few)) listed,

@@ -4,17 +4,17 @@ use mathlib.Core.Path.{_≡_, sym, _∙_}
 use mathlib.Core.List.{List}
 use denote.Ref.{RefT}
 use Rattle.answers.specs.declared.Told.{Told}
-use Rattle.answers.specs.Sheet.{Lent}
 use Rattle.answers.specs.Part.{SamePart}
 use Rattle.answers.proofs.Calls.{determined}
 use Rattle.answers.proofs.Parts.{one-part}
+use Rattle.tables.specs.Sheet.{Lent}
+use Rattle.reader.specs.Fill.{Tables}
 use Rattle.sheet.specs.Read.{ReadResult, Reads}
 use Rattle.sheet.specs.Write.{Writes}
 use Rattle.sheet.specs.RefusedLine.{RefusedLine}
 
-pub read-determined : (text assignment permission separations : List ℕ) {r₁ r₂ : ReadResult} →
-    Reads text assignment permission separations r₁ → Reads text assignment permission separations r₂ → r₁ ≡ r₂
-read-determined text assignment permission separations = determined (λ none d₁ d₂. d₁ ∙ sym d₂)
+pub read-determined : (text : List ℕ) (before : Tables) {r₁ r₂ : ReadResult} → Reads text before r₁ → Reads text before r₂ → r₁ ≡ r₂
+read-determined text before = determined (λ none d₁ d₂. d₁ ∙ sym d₂)
 
 pub write-determined : (l : Lent) (count : ℕ) (separations before : List ℕ) {r₁ r₂ : Told × List ℕ} →
     Writes l count separations before r₁ → Writes l count separations before r₂ → r₁ ≡ r₂

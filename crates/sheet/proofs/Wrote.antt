@@ -2,26 +2,26 @@
 use Prim.Native.Nat.{ℕ, _≤_}
 use mathlib.Core.Path.{_≡_, refl}
 use mathlib.Core.Logic.{_≢_}
-use mathlib.Core.Bool.{false, _||_}
+use mathlib.Core.Bool.{_||_}
 use mathlib.Core.List.{List}
 use borrow.Author.Tests.{ltb-false}
 use lib.ListN.{length}
 use Rattle.answers.specs.Sizes.{leastSeparations, leastText}
 use Rattle.answers.specs.Call.{firstRefusal, told}
 use Rattle.answers.specs.Rows.{shorter}
-use Rattle.answers.specs.Sheet.{Lent, sheetOf, entities}
-use Rattle.answers.specs.Refusals.{sheetRefusals, separationRefusals}
-use Rattle.answers.specs.Inner.{Sized}
 use Rattle.answers.proofs.Calls.{refuse-shared, refuse-own, accept-own}
-use Rattle.answers.proofs.Accepted.{sheet-numbered, tables-passed, separations-passed}
-use Rattle.answers.proofs.Tabled.{neither}
+use Rattle.answers.proofs.Joined.{neither}
+use Rattle.tables.specs.Sheet.{Lent, sheetOf, entities}
+use Rattle.tables.specs.Refusals.{noList, sheetRefusals, separationRefusals}
+use Rattle.tables.specs.Inner.{Sized}
+use Rattle.tables.proofs.Accepted.{sheet-numbered, tables-passed, separations-passed}
 use Rattle.scribe.specs.Put.{Ready, Written}
 use Rattle.sheet.specs.Write.{Writes, writeRefusals}
 
 module _ (l : Lent) (count : ℕ) (separations text : List ℕ) where
   -- 1, 5 and 11 of `write`; the other buffers that it is lent are the separations and the text
   abbrev pub tablesRefusal : ℕ
-  tablesRefusal = firstRefusal (sheetRefusals (shorter separations leastSeparations || shorter text leastText) false l)
+  tablesRefusal = firstRefusal (sheetRefusals (shorter separations leastSeparations || shorter text leastText) noList l)
 
   -- 8, 6 and 7
   abbrev pub pairsRefusal : ℕ
@@ -35,7 +35,7 @@ module _ (l : Lent) (count : ℕ) (separations text : List ℕ) where
 
   pub past-tables : tablesRefusal ≡ 0 → Passed
   past-tables e =
-      let tables = tables-passed _ false l e in
+      let tables = tables-passed _ noList l e in
       let short = neither (shorter separations leastSeparations) (shorter text leastText) (tables .not-short) in
       record { sized = tables .sized; separations-long = ltb-false _ _ (short .0); text-long = ltb-false _ _ (short .1) }
 
@@ -55,9 +55,9 @@ module _ (l : Lent) (count : ℕ) (separations text : List ℕ) where
 
   pub refused-by-pairs : (n : ℕ) → tablesRefusal ≡ 0 → n ≡ pairsRefusal → n ≢ 0 → Writes l count separations text (told n 0, text)
   unfolding writeRefusals
-  refused-by-pairs n none e some = refuse-own _ _ n (sheet-numbered _ false l) none e some refl
+  refused-by-pairs n none e some = refuse-own _ _ n (sheet-numbered _ noList l) none e some refl
 
   pub wrote : (n : ℕ) (after : List ℕ) → tablesRefusal ≡ 0 → pairsRefusal ≡ 0 → Written (sheetOf l count separations) text n after →
       Writes l count separations text (told 0 n, after)
   unfolding writeRefusals
-  wrote n after none e w = accept-own _ _ (sheet-numbered _ false l) none e (rw (w .size, w .text))
+  wrote n after none e w = accept-own _ _ (sheet-numbered _ noList l) none e (rw (w .size, w .text))

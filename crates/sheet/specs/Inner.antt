@@ -3,7 +3,7 @@ use Prim.Native.Nat.{ℕ}
 use mathlib.Core.Bool.{Bool, _||_}
 use lib.Dec.{ltb}
 use Rattle.answers.specs.Sizes.{leastAssignment, leastPermission, leastSeparations}
-use Rattle.answers.specs.Sheet.{counts}
+use Rattle.tables.specs.Sheet.{counts}
 use Rattle.frames.specs.declared.Passed.{Passed}
 use Rattle.sheet.specs.declared.Reading.{Reading}
 

@@ -1,21 +1,21 @@
 -- Writing: what the call answers and writes.
 use Prim.Native.Nat.{ℕ}
 use mathlib.Core.Path.{_≡_}
-use mathlib.Core.Bool.{false, _||_}
+use mathlib.Core.Bool.{_||_}
 use mathlib.Core.List.{List}
 use lib.ListN.{length}
 use Rattle.answers.specs.Sizes.{leastText, leastSeparations}
 use Rattle.answers.specs.declared.Told.{Told}
 use Rattle.answers.specs.Call.{Refusal, _then_, Outcome, told, toldAndLeft}
 use Rattle.answers.specs.Rows.{over, shorter}
-use Rattle.answers.specs.Sheet.{Lent, sheetOf, entities}
-use Rattle.answers.specs.Refusals.{sheetRefusals, separationRefusals}
+use Rattle.tables.specs.Sheet.{Lent, sheetOf, entities}
+use Rattle.tables.specs.Refusals.{noList, sheetRefusals, separationRefusals}
 use Rattle.text.specs.Content.{writeSheet}
 
 -- "1, 5, 11; then, if it takes separations, 8, and then the first faulty pair, 6 before 7"
 unfoldable pub writeRefusals : Lent → ℕ → List ℕ → List ℕ → List Refusal
 writeRefusals l count separations text =
-    sheetRefusals (shorter separations leastSeparations || shorter text leastText) false l
+    sheetRefusals (shorter separations leastSeparations || shorter text leastText) noList l
     then separationRefusals (entities (l .counts)) count separations
 
 -- the contract of `write`, "each content has one text": the answer and the text's length, and the lent text afterwards

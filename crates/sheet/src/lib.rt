@@ -1,10 +1,11 @@
 // Reading and writing the text of a sheet.
-use answers::Counts;
 use answers::Told;
 use answers::sizes;
+use tables::Counts;
 ghost use mathlib.Core.Path.{_≡_};
 ghost use Rattle.answers.specs.Call.{told};
-ghost use Rattle.answers.specs.Sheet.{lent};
+ghost use Rattle.tables.specs.Sheet.{lent};
+ghost use Rattle.reader.specs.Fill.{atEntry, atExit};
 ghost use Rattle.sheet.specs.Read.{readTo, Reads};
 ghost use Rattle.sheet.specs.Write.{Writes};
 ghost use Rattle.sheet.specs.RefusedLine.{RefusedLine};
@@ -49,13 +50,11 @@ fn accepted_reading(k: frames::Passed) -> Reading
 fn some_short(assignment: usize, permission: usize, separations: usize) -> bool
     ensures { λ r. ⌜ r ≡ anyShort assignment permission separations ⌝ }
 {
-    if assignment < sizes::LEAST_ASSIGNMENT {
-        return true;
-    }
-    if permission < sizes::LEAST_PERMISSION {
-        return true;
-    }
-    separations < sizes::LEAST_SEPARATIONS
+    let some = answers::either(
+        assignment < sizes::LEAST_ASSIGNMENT,
+        permission < sizes::LEAST_PERMISSION,
+    );
+    answers::either(some, separations < sizes::LEAST_SEPARATIONS)
 }
 
 // Reads a sheet into the lent tables. The whole text is checked before a table is written, so a refusal changes none.
@@ -65,7 +64,7 @@ pub fn read(
     permission: &mut [u8],
     separations: &mut [u8],
 ) -> Reading
-    ensures { λ r. ⌜ Reads (now (text .entry)) (now (assignment .entry)) (now (permission .entry)) (now (separations .entry)) (readTo r (now (assignment .exit)) (now (permission .exit)) (now (separations .exit))) ⌝ }
+    ensures { λ r. ⌜ Reads (now (text .entry)) (atEntry assignment permission separations) (readTo r (atExit assignment permission separations)) ⌝ }
 {
     if some_short(assignment.len(), permission.len(), separations.len()) {
         return refused_reading(1, 0);
@@ -73,7 +72,7 @@ pub fn read(
     if sizes::MOST_TEXT < text.len() {
         return refused_reading(5, 0);
     }
-    let checked = frames::check_text(text);
+    let checked = checking::check_text(text);
     let verdict = checked.verdict;
     match verdict {
         frames::Verdict::Refused(n, line) => refused_reading(n, line),
@@ -108,12 +107,12 @@ pub fn write(
         separations.len() < sizes::LEAST_SEPARATIONS,
         text.len() < sizes::LEAST_TEXT,
     );
-    let shared = answers::sheet_refusal(short, false, counts, assignment, permission);
+    let shared = refusals::sheet_refusal(short, refusals::NO_LIST, counts, assignment, permission);
     if shared != 0 {
         return tell(shared, 0);
     }
     let entities = counts.subjects + counts.objects;
-    let own = answers::separation_refusal(entities, count, separations);
+    let own = refusals::separation_refusal(entities, count, separations);
     if own != 0 {
         return tell(own, 0);
     }
@@ -126,7 +125,7 @@ pub fn write(
 pub fn refused_line(text: &[u8], line: usize) -> &[u8]
     ensures { λ r. ⌜ RefusedLine (text .entry) line r ⌝ }
 {
-    let start = digits::line_start(text, line);
-    let end = digits::line_end(text, line);
+    let start = lines::line_start(text, line);
+    let end = lines::line_end(text, line);
     &text[start..end]
 }

@@ -5,12 +5,12 @@ use mathlib.Core.Path.{_≡_, refl, sym, ap, _∙_}
 use mathlib.Core.List.{List, [], _∷_}
 use native.Mathlib.Decide.{ℕ-discrete}
 use lib.ListN.{replicate}
-use Rattle.answers.specs.Call.{firstRefusal}
+use Rattle.answers.specs.Call.{firstRefusal, _then_}
 use Rattle.answers.specs.Rows.{at, over, anyBelow}
-use Rattle.answers.specs.Sheet.{Lent, sheetIn, sheetOf, entities, from, to}
-use Rattle.answers.specs.Refusals.{sheetRefusals}
+use Rattle.tables.specs.Sheet.{Lent, sheetIn, sheetOf, entities, from, to}
+use Rattle.tables.specs.Refusals.{sizeRefusals, usedRefusals, sheetRefusals}
 use Rattle.answers.proofs.Calls.{accept}
-use Rattle.graph.specs.Written.{FlowTable}
+use Rattle.rows.specs.Written.{FlowTable}
 use Rattle.access.specs.Channel.{Channel}
 use Rattle.flow.specs.Fill.{fillRefusals}
 use Rattle.verdict.specs.Judge.{judgeRefusals}
@@ -59,7 +59,7 @@ abbrev buffer : List ℕ
 buffer = replicate 12544 5
 
 small-fill : FillsForC tables buffer (0, over (1 ∷ 1 ∷ 0 ∷ 1 ∷ []) buffer)
-unfolding firstRefusal anyBelow sheetRefusals fillRefusals tables sheetOf
+unfolding firstRefusal _then_ anyBelow sheetRefusals sizeRefusals usedRefusals fillRefusals tables sheetOf
 small-fill = accept refl (refl, filled buffer)
 
 small-bytes : at (over (1 ∷ 1 ∷ 0 ∷ 1 ∷ []) buffer) 2 0 1 ≡ 1

@@ -2,9 +2,9 @@
 use Prim.Native.Nat.{ℕ}
 use mathlib.Core.Path.{_≡_, sym, ap, ap₂, _∙_}
 use mathlib.Core.List.{List}
-use Rattle.answers.specs.Sheet.{Lent}
+use Rattle.tables.specs.Sheet.{Lent}
 use Rattle.flow.proofs.Determined.{fill-determined}
-use Rattle.verdict.specs.declared.Judged.{Judged}
+use Rattle.separations.specs.declared.Judged.{Judged}
 use Rattle.verdict.proofs.Determined.{judge-determined}
 use Rattle.sievemarl.specs.Packed.{packed}
 use Rattle.sievemarl.specs.ForC.{FillsForC, JudgesForC}

@@ -4,9 +4,9 @@ use mathlib.Core.Path.{_≡_, refl}
 use mathlib.Core.List.{List, _∷_}
 use native.Mathlib.Omega.{arith}
 use lib.ListN.{replicate}
-use Rattle.answers.specs.Sheet.{Lent}
-use Rattle.verdict.specs.declared.Judged.{Judged}
-use Rattle.verdict.specs.Judge.{judged}
+use Rattle.tables.specs.Sheet.{Lent}
+use Rattle.separations.specs.declared.Judged.{Judged}
+use Rattle.separations.specs.Verdict.{judged}
 use Rattle.verdict.proofs.Bounds.{Small, judged-small}
 use Rattle.verdict.proofs.Instances.{tables, separations, before, call}
 use Rattle.sievemarl.specs.Packed.{packed}

@@ -2,9 +2,9 @@
 use Prim.Native.Nat.{ℕ}
 use mathlib.Core.Path.{_≡_}
 use mathlib.Core.List.{List}
-use Rattle.answers.specs.Sheet.{Lent}
+use Rattle.tables.specs.Sheet.{Lent}
 use Rattle.flow.specs.Fill.{Fills}
-use Rattle.verdict.specs.declared.Judged.{Judged}
+use Rattle.separations.specs.declared.Judged.{Judged}
 use Rattle.verdict.specs.Judge.{Judges}
 use Rattle.sievemarl.specs.Packed.{packed}
 

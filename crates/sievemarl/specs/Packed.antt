@@ -1,6 +1,6 @@
 -- What C is handed for a verdict.
 use Prim.Native.Nat.{ℕ, _+_, _*_}
-use Rattle.verdict.specs.declared.Judged.{Judged}
+use Rattle.separations.specs.declared.Judged.{Judged}
 
 -- "There, judging returns answer + 256 x position + 65,536 x chain count."
 unfoldable pub packed : Judged → ℕ

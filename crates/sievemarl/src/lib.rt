@@ -1,9 +1,9 @@
 // The face for C: numbers and byte buffers.
-use answers::Counts;
-use verdict::Judged;
+use separations::Judged;
+use tables::Counts;
 ghost use mathlib.Core.Path.{_≡_};
 ghost use Prim.Native.Nat.{_<_};
-ghost use Rattle.answers.specs.Sheet.{lent, counts};
+ghost use Rattle.tables.specs.Sheet.{lent, counts};
 ghost use Rattle.sievemarl.specs.Packed.{packed};
 ghost use Rattle.sievemarl.specs.ForC.{FillsForC, JudgesForC};
 

@@ -7,10 +7,10 @@ use native.Mathlib.Numerals.{add-one}
 use native.Mathlib.Omega.{arith}
 use lib.ListN.{length, getD, set, replicate, length-append}
 use lib.Seq.{set-append-seam, append-snoc}
-use Rattle.answers.specs.declared.Counts.{Counts}
-use Rattle.answers.specs.Sheet.{Sheet, Sound}
+use Rattle.tables.specs.declared.Counts.{Counts}
+use Rattle.tables.specs.Sheet.{Sheet, Sound, sheet}
 use Rattle.frames.specs.declared.Frame.{Frame}
-use Rattle.text.specs.Content.{sheet, blank, add, addAll, contentOf, present, assignAt, permitAt, separates, body, opened, closing, framesIn}
+use Rattle.text.specs.Content.{blank, add, addAll, contentOf, present, assignAt, permitAt, separates, body, opened, closing, framesIn}
 
 -- ---- a table of zeros, with the bytes of t that are not 0 set one after the other
 setAll : ℕ → List ℕ → List ℕ → List ℕ

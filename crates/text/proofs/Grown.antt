@@ -6,8 +6,8 @@ use native.Mathlib.Omega.{arith}
 use borrow.Author.Count.{below-more}
 use lib.Arith.{digits-div, digits-mod, digits-lt}
 use lib.ListN.{length, getD, replicate, length-append}
-use Rattle.answers.specs.declared.Counts.{Counts}
-use Rattle.answers.specs.Sheet.{Sheet, Sound, separationKey}
+use Rattle.tables.specs.declared.Counts.{Counts}
+use Rattle.tables.specs.Sheet.{Sheet, Sound, separationKey}
 use Rattle.frames.specs.declared.Frame.{Frame}
 use Rattle.frames.specs.declared.Frame.the-variants.{Header, Assign, Permit, Separate}
 use Rattle.frames.specs.Frame.{key}

@@ -9,11 +9,11 @@ use native.Mathlib.Omega.{arith}
 use borrow.Author.Count.{below-more}
 use lib.ListN.{length, getD, set, replicate, length-set, length-append, length-replicate, List·getD-append}
 use lib.Seq.{getD-set-same, getD-set-other, getD-append-add}
-use Rattle.answers.specs.declared.Counts.{Counts}
+use Rattle.tables.specs.declared.Counts.{Counts}
 use Rattle.answers.specs.Sizes.{mostSubjects, mostObjects, mostRoles, mostSeparations}
-use Rattle.answers.specs.Sheet.{Sheet, Sound, entities, from, to, pairKey, separationKey}
+use Rattle.tables.specs.Sheet.{Sheet, Sound, entities, from, to, pairKey, separationKey, sheet}
 use Rattle.frames.specs.declared.Frame.the-variants.{Assign, Permit, Separate}
-use Rattle.text.specs.Content.{sheet, blank, add}
+use Rattle.text.specs.Content.{blank, add}
 
 -- ---- tables of bytes
 pub zeros : (n i : ℕ) → _≡_ {A = ℕ} (getD (replicate n 0) i 0) 0

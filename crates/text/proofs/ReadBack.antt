@@ -7,7 +7,7 @@ use native.Mathlib.Omega.{arith}
 use lib.Arith.{digits-div, digits-mod}
 use lib.ListN.{length, length-append}
 use borrow.Author.Tests.{ltb-false}
-use Rattle.answers.specs.Sheet.{Sheet, Sound, counts}
+use Rattle.tables.specs.Sheet.{Sheet, Sound, counts}
 use Rattle.digits.proofs.Digits.{Bytes}
 use Rattle.frames.specs.declared.Frame.{Frame}
 use Rattle.frames.specs.declared.Frame.the-variants.{Header, Assign, Permit, Separate, End}
@@ -21,17 +21,7 @@ use Rattle.frames.proofs.Checks.{Fine, frame-passed, end-lacks, nothing-after}
 use Rattle.frames.proofs.Ranges.{header-fits, assign-range, permit-range, separate-range, separate-room, end-count}
 use Rattle.text.specs.Content.{blank, add, addAll, contentOf, opened, closing, framesIn}
 use Rattle.text.proofs.Kept.{sound-blank, sound-assign, sound-permit, sound-separate}
-use Rattle.text.proofs.Grown.{
-  Reached,
-  reached-blank,
-  opened-blank,
-  grow-assign,
-  grow-permit,
-  grow-separate,
-  reached-assign,
-  reached-permit,
-  reached-separate,
-}
+use Rattle.text.proofs.Grown.{Reached, reached-blank, opened-blank, grow-assign, grow-permit, grow-separate, reached-assign, reached-permit, reached-separate}
 
 -- after the lines fs, of which k is known, the tables are t
 record Built (fs : List Frame) (k : Passed) (t : Sheet) : Type 0 where

@@ -17,8 +17,7 @@ use Rattle.frames.specs.declared.Verdict.{Verdict}
 use Rattle.frames.specs.declared.Verdict.the-variants.{Refused, Accepted}
 use Rattle.frames.specs.Frame.{parse}
 use Rattle.frames.specs.Check.{start, lineRefusals, nextLine, check, parsedLines, framesOf}
-use Rattle.frames.proofs.Checks.{check-go, check-stop}
-use Rattle.frames.proofs.Turns.{more-lines}
+use Rattle.frames.proofs.Checks.{check-go, check-stop, more-lines}
 use Rattle.text.specs.Content.{contentOf}
 use Rattle.text.specs.Reading.{refused, readBy, readLines, readText}
 use Rattle.text.proofs.Worked.{reading}

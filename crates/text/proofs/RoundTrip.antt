@@ -10,7 +10,7 @@ use lib.ListN.{length}
 use borrow.Author.Tests.{le-ltb}
 use Rattle.answers.specs.Sizes.{mostText}
 use Rattle.answers.specs.Rows.{exceeds}
-use Rattle.answers.specs.Sheet.{Sheet, Sound}
+use Rattle.tables.specs.Sheet.{Sheet, Sound}
 use Rattle.frames.specs.declared.Parsed.the-variants.{Good}
 use Rattle.frames.specs.declared.Verdict.{Verdict}
 use Rattle.frames.specs.declared.Verdict.the-variants.{Refused, Accepted}

@@ -5,9 +5,9 @@ use mathlib.Core.List.{List, [], _∷_, _++_}
 use native.Mathlib.Nat.{mul-suc, mul-le-mul}
 use native.Mathlib.Omega.{arith}
 use lib.ListN.{length, length-append}
-use Rattle.answers.specs.declared.Counts.{Counts}
+use Rattle.tables.specs.declared.Counts.{Counts}
 use Rattle.answers.specs.Sizes.{mostSubjects, mostObjects, mostRoles, mostText}
-use Rattle.answers.specs.Sheet.{Sheet, Sound}
+use Rattle.tables.specs.Sheet.{Sheet, Sound}
 use Rattle.digits.specs.Digit.{toDigits}
 use Rattle.digits.specs.Line.{lineOf}
 use Rattle.digits.proofs.Digits.{Bytes}

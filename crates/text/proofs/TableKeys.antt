@@ -6,7 +6,7 @@ use native.Mathlib.Nat.{suc-mul, mul-zero, mul-le-mul-right, mod-lt, div-lt-iff-
 use native.Mathlib.Decide.{decLt}
 use native.Mathlib.Omega.{arith}
 use lib.Arith.{digits-div, digits-mod}
-use Rattle.answers.specs.Sheet.{pairKey}
+use Rattle.tables.specs.Sheet.{pairKey}
 
 -- "by first byte, then by the two bytes after it"
 abbrev pub lineKey : ℕ → ℕ → ℕ → ℕ

@@ -2,14 +2,14 @@
 use Prim.Native.Nat.{ℕ}
 use mathlib.Core.Path.{_≡_, refl}
 use mathlib.Core.List.{List, [], _∷_}
-use Rattle.answers.specs.Sheet.{Sheet, counts}
+use Rattle.tables.specs.Sheet.{Sheet, counts, sheet}
 use Rattle.digits.specs.Digit.{digitByte, toDigits}
 use Rattle.digits.specs.Line.{lineOf}
 use Rattle.digits.specs.Text.{codes}
 use Rattle.frames.specs.Frame.{frameBytes, textOf}
 use Rattle.frames.specs.Check.{framesOf}
 use Rattle.frames.proofs.Verdicts.{bytesVerdict}
-use Rattle.text.specs.Content.{sheet, blank, add, addAll, contentOf, present, assignAt, permitAt, separates, body, opened, closing, framesIn, writeSheet}
+use Rattle.text.specs.Content.{blank, add, addAll, contentOf, present, assignAt, permitAt, separates, body, opened, closing, framesIn, writeSheet}
 use Rattle.text.specs.Reading.{Read, accepted, readBy, readLines, readText}
 use Rattle.text.specs.Worked.{workedText}
 

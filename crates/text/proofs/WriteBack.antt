@@ -4,8 +4,8 @@ use mathlib.Core.Path.{_≡_, ap₂, refl}
 use mathlib.Core.List.{List, [], _∷_, map}
 use native.Mathlib.Omega.{arith}
 use lib.ListN.{length, getD}
-use Rattle.answers.specs.declared.Counts.{Counts}
-use Rattle.answers.specs.Sheet.{Sheet, Sound, entities, from, to, pairKey, separationKey}
+use Rattle.tables.specs.declared.Counts.{Counts}
+use Rattle.tables.specs.Sheet.{Sheet, Sound, entities, from, to, pairKey, separationKey}
 use Rattle.frames.specs.declared.Frame.{Frame}
 use Rattle.frames.specs.declared.Frame.the-variants.{Header}
 use Rattle.frames.specs.declared.Parsed.the-variants.{Good}

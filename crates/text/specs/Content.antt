@@ -2,16 +2,11 @@
 use Prim.Native.Nat.{ℕ, zero, suc, _+_, _*_, _/_, _%_}
 use mathlib.Core.List.{List, [], _∷_, _++_}
 use lib.ListN.{length, set, replicate}
-use Rattle.answers.specs.declared.Counts.{Counts}
-use Rattle.answers.specs.Sheet.{Sheet, counts}
+use Rattle.tables.specs.declared.Counts.{Counts}
+use Rattle.tables.specs.Sheet.{Sheet, sheet, counts}
 use Rattle.frames.specs.declared.Frame.{Frame}
 use Rattle.frames.specs.declared.Frame.the-variants.{Header, Assign, Permit, Separate, End}
 use Rattle.frames.specs.Frame.{textOf}
-
--- a sheet of these tables
-abbrev pub sheet : Counts → List ℕ → List ℕ → List ℕ → Sheet
-sheet c assignment permission separations =
-    record { counts = c; assignment = assignment; permission = permission; separations = separations }
 
 -- "Absent pairs mean 0"
 unfoldable pub blank : Counts → Sheet

@@ -5,7 +5,7 @@ use mathlib.Core.List.{List}
 use lib.ListN.{length}
 use Rattle.answers.specs.Sizes.{mostText}
 use Rattle.answers.specs.Rows.{exceeds}
-use Rattle.answers.specs.Sheet.{Sheet}
+use Rattle.tables.specs.Sheet.{Sheet}
 use Rattle.frames.specs.declared.Verdict.{Verdict}
 use Rattle.frames.specs.declared.Verdict.the-variants.{Refused, Accepted}
 use Rattle.frames.specs.Check.{start, check, parsedLines, framesOf}

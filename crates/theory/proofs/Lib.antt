@@ -6,3 +6,4 @@ pub mod Chains
 pub mod Exists
 pub mod Effects
 pub mod Network
+pub mod Filled

@@ -6,15 +6,15 @@ use mathlib.Core.Logic.{inl, inr}
 use mathlib.Core.List.{List, _∷_}
 use lib.ListN.{length, getD, replicate}
 use borrow.Author.Tests.{lt-ltb, le-ltb}
-use Rattle.answers.specs.declared.Counts.{Counts}
+use Rattle.tables.specs.declared.Counts.{Counts}
 use Rattle.answers.specs.Rows.{count}
-use Rattle.answers.specs.Sheet.{entities}
+use Rattle.tables.specs.Sheet.{entities}
 use Rattle.theory.specs.Chain.{Chain, alone, link}
 use Rattle.theory.proofs.Chains.{chain-long}
 use Rattle.access.proofs.Channels.{TwoSided}
 use Rattle.transfers.specs.declared.Transfer.{Transfer}
-use Rattle.transfers.specs.Acts.{verdict, verdictBytes}
-use Rattle.transfers.specs.Transfers.{transfer, Way, toSubject, toObject, moves, AllCome, none, next, flatBytes}
+use Rattle.transfers.specs.Acts.{verdict, verdictBytes, AllCome, none, next}
+use Rattle.transfers.specs.Transfers.{transfer, Way, toSubject, toObject, Comes, moves, flatBytes}
 use Rattle.transfers.specs.Demand3.{transferOf, chainTransfers}
 use Rattle.transfers.proofs.FlatBytes.{Bytes, flat-bytes}
 use Rattle.transfers.proofs.Labels.{chainMoves, chain-moves}
@@ -50,7 +50,7 @@ module _ {ch : ℕ → ℕ → Type 0} {y : ℕ} (c : Counts) where
 
   -- each comes to the move along its channel
   pub chain-comes : {x : ℕ} {l : List ℕ} → ((a b : ℕ) → ch a b → TwoSided c a b) → Chain ch x y l →
-      AllCome c ch (chainTransfers c l) (chainMoves l)
+      AllCome (Comes c ch) (chainTransfers c l) (chainMoves l)
   unfolding chainTransfers chainMoves
   chain-comes sides alone = none
   chain-comes {x} sides (link {z = z} h t) =

@@ -5,14 +5,15 @@ use mathlib.Core.Path.{_≡_, refl}
 use mathlib.Core.List.{List, [], _∷_}
 use native.Mathlib.Omega.{arith}
 use lib.Dec.{lit<}
-use Rattle.answers.specs.declared.Counts.{Counts}
+use Rattle.tables.specs.declared.Counts.{Counts}
+use Rattle.answers.specs.Call.{firstRefusal}
 use Rattle.answers.specs.Rows.{over, count}
-use Rattle.answers.specs.Sheet.{counts}
+use Rattle.tables.specs.Sheet.{counts}
 use Rattle.transfers.specs.declared.Act.the-variants.{Moves, OutOfRange, NotPermitted}
 use Rattle.transfers.specs.declared.Transfer.{Transfer}
-use Rattle.transfers.specs.Acts.{verdict, verdictBytes, plus, acted, after}
-use Rattle.transfers.specs.Transfers.{transfer, flatTransfers, Way, toSubject, toObject, Comes, moves, outside, barred, AllCome, none, next, flatBytes}
-use Rattle.transfers.specs.Rehearse.{tally, raised, rehearsed, Rehearses}
+use Rattle.transfers.specs.Acts.{verdict, verdictBytes, plus, acted, after, AllCome, none, next}
+use Rattle.transfers.specs.Transfers.{transfer, flatTransfers, Way, toSubject, toObject, Comes, moves, outside, barred, flatBytes}
+use Rattle.transfers.specs.Rehearse.{tally, newTally, raised, notRehearsed, rehearsed, Rehearses, tallyRefusals}
 use Rattle.transfers.specs.Demand3.{transferOf, chainTransfers}
 use Rattle.transfers.proofs.Shares.{share}
 
@@ -102,11 +103,11 @@ seven =
     ∷ transfer 0 0 3
     ∷ []
 
-all-come : AllCome few Hop seven (Moves 0 2 ∷ OutOfRange ∷ NotPermitted ∷ Moves 2 1 ∷ OutOfRange ∷ OutOfRange ∷ OutOfRange ∷ [])
+all-come : AllCome (Comes few Hop) seven (Moves 0 2 ∷ OutOfRange ∷ NotPermitted ∷ Moves 2 1 ∷ OutOfRange ∷ OutOfRange ∷ OutOfRange ∷ [])
 all-come = next writes (next subject-outside (next no-channel (next reads (next object-outside (next mode-0 (next mode-3 none))))))
 
 -- two applied, four outside, one barred; the buffer's last two bytes stay
-seven-rehearsed : Rehearses few Hop seven (7 ∷ 0 ∷ 0 ∷ []) (9 ∷ 9 ∷ 9 ∷ 9 ∷ 9 ∷ 9 ∷ 9 ∷ 8 ∷ 7 ∷ []) (tally 100 200 300) record {
+seven-rehearsed : Rehearses (Comes few Hop) seven (7 ∷ 0 ∷ 0 ∷ []) (9 ∷ 9 ∷ 9 ∷ 9 ∷ 9 ∷ 9 ∷ 9 ∷ 8 ∷ 7 ∷ []) (tally 100 200 300) record {
   answer = 0;
   applied = 2;
   marks = 7 ∷ 7 ∷ 7 ∷ [];
@@ -126,3 +127,27 @@ record Threes : Type 0 where
 threes : Threes
 unfolding flatTransfers flatBytes chainTransfers transferOf
 threes = record { read-off = refl; written-down = refl; along-a-chain = refl; of-one-entity = refl }
+
+-- ---- tallies
+record Tallies : Type 0 where
+  -- one 10, two of 16, three of 0
+  from-nothing : raised newTally (0 ∷ 10 ∷ 16 ∷ 0 ∷ 16 ∷ 0 ∷ []) ≡ record { applied = 3; outside = 1; barred = 2 }
+  has-room : firstRefusal (tallyRefusals (tally 4294963199 4294963199 4294963199)) ≡ 0
+  applied-full : firstRefusal (tallyRefusals (tally 4294963200 0 0)) ≡ 17
+  outside-full : firstRefusal (tallyRefusals (tally 0 4294963200 0)) ≡ 17
+  barred-full : firstRefusal (tallyRefusals (tally 0 0 4294963200)) ≡ 17
+  -- a refusal by 15
+  untouched : notRehearsed (7 ∷ []) (9 ∷ []) (tally 1 2 3) 15
+      ≡ record { answer = 15; applied = 0; marks = 7 ∷ []; verdicts = 9 ∷ []; tally = tally 1 2 3 }
+
+tallies : Tallies
+unfolding raised count tallyRefusals firstRefusal
+tallies =
+    record {
+      from-nothing = refl;
+      has-room = refl;
+      applied-full = refl;
+      outside-full = refl;
+      barred-full = refl;
+      untouched = refl;
+    }

@@ -4,12 +4,9 @@ use native.Mathlib.Omega.{arith}
 use mathlib.Core.Path.{_≡_, refl}
 use mathlib.Core.List.{List, [], _∷_}
 use lib.ListN.{length, set, length-set}
-use Rattle.answers.specs.declared.Counts.{Counts}
 use Rattle.transfers.specs.declared.Act.{Act}
 use Rattle.transfers.specs.declared.Act.the-variants.{Moves, OutOfRange, NotPermitted}
-use Rattle.transfers.specs.declared.Transfer.{Transfer}
-use Rattle.transfers.specs.Acts.{plus, acted, verdictBytes}
-use Rattle.transfers.specs.Transfers.{moves, outside, barred, AllCome, none, next}
+use Rattle.transfers.specs.Acts.{plus, acted, verdictBytes, AllCome, none, next, Along}
 use Rattle.transfers.specs.Demand3.{Marks32}
 
 -- each act that moves does so along R
@@ -19,16 +16,15 @@ pub data AllMove (R : ℕ → ℕ → Type 0) : List Act → Type 0 where
   skip-outside : {acts : List Act} → AllMove R acts → AllMove R (OutOfRange ∷ acts)
   skip-barred : {acts : List Act} → AllMove R acts → AllMove R (NotPermitted ∷ acts)
 
-module _ {c : Counts} {ch : ℕ → ℕ → Type 0} where
-  -- what transfers come to moves along channels
-  pub come-move : {ts : List Transfer} {acts : List Act} → AllCome c ch ts acts → AllMove ch acts
-  come-move none = still
-  come-move (next (moves w h) rest) = move h (come-move rest)
-  come-move (next (outside no-way) rest) = skip-outside (come-move rest)
-  come-move (next (barred w h) rest) = skip-barred (come-move rest)
+module _ {T : Type 0} {comes : T → Act → Type 0} where
+  pub come-move : {R : ℕ → ℕ → Type 0} {ts : List T} {acts : List Act} → Along comes R → AllCome comes ts acts → AllMove R acts
+  come-move along none = still
+  come-move along (next {t = t} {act = Moves a b} h rest) = move (along t a b h) (come-move along rest)
+  come-move along (next {act = OutOfRange} h rest) = skip-outside (come-move along rest)
+  come-move along (next {act = NotPermitted} h rest) = skip-barred (come-move along rest)
 
   -- one verdict byte for each transfer
-  pub come-length : {ts : List Transfer} {acts : List Act} → AllCome c ch ts acts → length (verdictBytes acts) ≡ length ts
+  pub come-length : {ts : List T} {acts : List Act} → AllCome comes ts acts → length (verdictBytes acts) ≡ length ts
   unfolding verdictBytes
   come-length none = refl
   come-length (next h rest) = omega (arith, come-length rest)

@@ -1,4 +1,4 @@
--- Demand 3, over any relation of channels. Its second half: the final mark of y is the sum of all starting marks, each times its share
+-- Demand 3, over any relation of channels and any kind of transfer. Its second half: the final mark of y is the sum of all starting marks, each times its share
 -- in y, modulo 2 ^ 32, and along the shown chain x's share is 1, so a difference at x arrives at y. Its first half: where x does not
 -- flow it does not arrive, whatever a move makes of the two marks that it looks at.
 use Prim.Native.Nat.{ℕ, _+_, _*_, _%_, _^_, _≤_, _<_}
@@ -12,16 +12,13 @@ use lib.Dec.{eqb}
 use lib.ListN.{length, getD}
 use lib.Seq.{getD-set-same, getD-set-other}
 use borrow.Author.Tests.{eq-eqb, ne-eqb}
-use Rattle.answers.specs.declared.Counts.{Counts}
 use Rattle.theory.specs.Flow.{Flow, here, step}
 use Rattle.theory.specs.Chain.{Best}
 use Rattle.theory.proofs.Flows.{Inside}
 use Rattle.theory.proofs.Chains.{shortest-distinct}
 use Rattle.transfers.specs.declared.Act.{Act}
 use Rattle.transfers.specs.declared.Act.the-variants.{Moves}
-use Rattle.transfers.specs.declared.Transfer.{Transfer}
-use Rattle.transfers.specs.Acts.{plus, acted, after}
-use Rattle.transfers.specs.Transfers.{AllCome}
+use Rattle.transfers.specs.Acts.{plus, acted, after, AllCome, Along}
 use Rattle.transfers.specs.Demand3.{Marks32, Starts}
 use Rattle.transfers.proofs.Moving.{AllMove, still, move, skip-outside, skip-barred, come-move, acted-length, acted-marks}
 use Rattle.transfers.proofs.Sums.{sum-but-one}
@@ -123,6 +120,6 @@ module _ {n : ℕ} {ch : ℕ → ℕ → Type 0} (inside : Inside n ch) {x : ℕ
           agree = λ z inner lacks. s .apart .agree z inner (λ e. lacks (subst (Flow ch x) (sym e) here));
         }
 
-    pub label-lacks : {c : Counts} {ts : List Transfer} {acts : List Act} → AllCome c ch ts acts → (Flow ch x y → ⊥) →
-        getD (after acts marks) y 0 ≡ getD (after acts marks′) y 0
-    label-lacks come lacks = runs-agree (come-move come) at-start .agree y below lacks
+    pub label-lacks : {T : Type 0} {comes : T → Act → Type 0} {ts : List T} {acts : List Act} → Along comes ch → AllCome comes ts acts →
+        (Flow ch x y → ⊥) → getD (after acts marks) y 0 ≡ getD (after acts marks′) y 0
+    label-lacks along come lacks = runs-agree (come-move along come) at-start .agree y below lacks

@@ -1,19 +1,15 @@
--- The words of demand 3, over demand 2's labels.
+-- The words of demand 3, over demand 2's labels and any relation of channels.
 use Prim.Native.Nat.{ℕ, _-_, _^_, _<_}
 use mathlib.Core.Path.{_≡_}
-use mathlib.Core.Bool.{false, cond}
+use mathlib.Core.Bool.{cond}
 use mathlib.Core.List.{List, [], _∷_}
 use lib.Dec.{ltb}
 use lib.ListN.{length, getD, take, replicate}
-use Rattle.answers.specs.declared.Counts.{Counts}
-use Rattle.answers.specs.Call.{firstRefusal}
-use Rattle.answers.specs.Sheet.{Lent}
-use Rattle.answers.specs.Refusals.{sheetRefusals}
+use Rattle.tables.specs.declared.Counts.{Counts}
 use Rattle.theory.specs.Flow.{Flow}
-use Rattle.transfers.specs.declared.Tally.{Tally}
 use Rattle.transfers.specs.declared.Transfer.{Transfer}
-use Rattle.transfers.specs.Transfers.{transfer, flatBytes}
-use Rattle.transfers.specs.Rehearse.{Rehearsed, tallyRefusals, rehearsalShort, RehearsesFlat, RehearsesRecords}
+use Rattle.transfers.specs.Transfers.{transfer}
+use Rattle.transfers.specs.Rehearse.{Rehearsed}
 
 -- ---- what both rehearsals are given
 -- "Each entity holds a 32-bit mark"
@@ -38,11 +34,6 @@ pub record TwoLendings (n x : ℕ) (marks marks′ verdicts verdicts′ : List �
   pub starts : Starts n x marks marks′
   pub same-verdict-length : length verdicts ≡ length verdicts′
 
--- "one sound sheet, .. and one tally": nothing is refused but, perhaps, the transfer list
-pub record Ready (l : Lent) (marks verdicts : List ℕ) (t : Tally) : Type 0 where
-  pub sheet : firstRefusal (sheetRefusals (rehearsalShort marks verdicts) false l) ≡ 0
-  pub tally : firstRefusal (tallyRefusals t) ≡ 0
-
 -- ---- the first half
 -- "Both rehearsals give equal answers and counts, and an entity whose label lacks x ends with equal marks": the results of one list of k
 -- transfers; the verdict bytes are equal too
@@ -63,14 +54,6 @@ unfoldable pub chainTransfers : Counts → List ℕ → List Transfer
 chainTransfers c [] = []
 chainTransfers c (a ∷ []) = []
 chainTransfers c (a ∷ b ∷ l) = transferOf c a b ∷ chainTransfers c (b ∷ l)
-
--- "rehearsal of the shown chain's transfers", as records
-abbrev pub RehearsesChain : Lent → List ℕ → List ℕ → List ℕ → Tally → Rehearsed → Type 0
-RehearsesChain l chain = RehearsesRecords l (chainTransfers (l .counts) chain)
-
--- and as flat bytes
-abbrev pub RehearsesChainFlat : Lent → List ℕ → List ℕ → List ℕ → Tally → Rehearsed → Type 0
-RehearsesChainFlat l chain = RehearsesFlat l (flatBytes (chainTransfers (l .counts) chain))
 
 -- "an accepted rehearsal": of k transfers, of which each was applied
 pub record AllApplied (k : ℕ) (r : Rehearsed) : Type 0 where

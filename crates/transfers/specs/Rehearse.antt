@@ -1,22 +1,12 @@
--- The rehearsal of a list of transfers: its refusals, and what it answers and leaves.
-use Prim.Native.Nat.{ℕ, _+_, _%_}
+-- The rehearsal of a list of transfers: what it answers and leaves, and what it refuses of a tally.
+use Prim.Native.Nat.{ℕ, _+_}
 use mathlib.Core.Path.{_≡_}
-use mathlib.Core.Bool.{Bool, not, _||_}
 use mathlib.Core.List.{List, [], _∷_}
-use lib.Dec.{eqb}
-use lib.ListN.{length}
-use Rattle.answers.specs.declared.Counts.{Counts}
-use Rattle.answers.specs.Sizes.{mostTransfers, mostTransferBytes, leastMarks, leastVerdicts}
-use Rattle.answers.specs.Call.{Refusal, _if_, _then_, Outcome}
-use Rattle.answers.specs.Rows.{over, count, shorter, exceeds}
-use Rattle.answers.specs.Sheet.{Lent, sheetIn}
-use Rattle.answers.specs.Refusals.{sheetRefusals}
-use Rattle.access.specs.Channel.{Channel}
+use Rattle.answers.specs.Call.{Refusal, _if_}
+use Rattle.answers.specs.Rows.{over, count, exceeds}
 use Rattle.transfers.specs.declared.Act.{Act}
-use Rattle.transfers.specs.declared.Transfer.{Transfer}
 use Rattle.transfers.specs.declared.Tally.{Tally}
-use Rattle.transfers.specs.Acts.{verdictBytes, after}
-use Rattle.transfers.specs.Transfers.{flatTransfers, AllCome}
+use Rattle.transfers.specs.Acts.{verdictBytes, after, AllCome}
 
 -- the counts of 0, 10 and 16
 abbrev pub tally : ℕ → ℕ → ℕ → Tally
@@ -53,13 +43,12 @@ rehearsed acts marks verdicts t =
       tally = raised t (verdictBytes acts);
     }
 
--- a rehearsal that is not refused, over any relation of channels
-pub record Rehearses (c : Counts) (ch : ℕ → ℕ → Type 0) (ts : List Transfer) (marks verdicts : List ℕ) (t : Tally) (result : Rehearsed) : Type 0 where
+-- a rehearsal that is not refused, of any kind of transfer: `comes` says what each comes to
+pub record Rehearses {T : Type 0} (comes : T → Act → Type 0) (ts : List T) (marks verdicts : List ℕ) (t : Tally) (result : Rehearsed) : Type 0 where
   pub acts : List Act
-  pub come : AllCome c ch ts acts
+  pub come : AllCome comes ts acts
   pub result-is : result ≡ rehearsed acts marks verdicts t
 
--- ---- the calls
 -- "17 | a tally count above 4,294,963,199"
 abbrev pub mostTallied : ℕ
 mostTallied = 4294963199
@@ -68,31 +57,3 @@ mostTallied = 4294963199
 unfoldable pub tallyRefusals : Tally → List Refusal
 tallyRefusals t =
     (17 if exceeds (t .applied) mostTallied) ∷ (17 if exceeds (t .outside) mostTallied) ∷ (17 if exceeds (t .barred) mostTallied) ∷ []
-
--- 1 for the marks and the verdict bytes
-unfoldable pub rehearsalShort : List ℕ → List ℕ → Bool
-rehearsalShort marks verdicts = shorter marks leastMarks || shorter verdicts leastVerdicts
-
--- "5 above 12,288 bytes"; "then 10, 15, 17 or the call's own"; "15 | a flat transfer list whose length is not a multiple of 3"
-unfoldable pub rehearseRefusals : Lent → List ℕ → List ℕ → List ℕ → Tally → List Refusal
-rehearseRefusals l transfers marks verdicts t =
-    sheetRefusals (rehearsalShort marks verdicts) (exceeds (length transfers) mostTransferBytes) l
-    then ((15 if not (eqb (length transfers % 3) 0)) ∷ [])
-    then tallyRefusals t
-
--- "transfers in a rehearsal | 4,096"
-unfoldable pub recordRefusals : Lent → List Transfer → List ℕ → List ℕ → Tally → List Refusal
-recordRefusals l transfers marks verdicts t =
-    sheetRefusals (rehearsalShort marks verdicts) (exceeds (length transfers) mostTransfers) l then tallyRefusals t
-
--- the contract of `rehearse`
-abbrev pub RehearsesFlat : Lent → List ℕ → List ℕ → List ℕ → Tally → Rehearsed → Type 0
-RehearsesFlat l transfers marks verdicts t =
-    Outcome (rehearseRefusals l transfers marks verdicts t) (notRehearsed marks verdicts t)
-    (Rehearses (l .counts) (Channel (sheetIn l)) (flatTransfers transfers) marks verdicts t)
-
--- the contract of `rehearse_records`: "a thin second entry takes a list of transfer records .. and answers the same"
-abbrev pub RehearsesRecords : Lent → List Transfer → List ℕ → List ℕ → Tally → Rehearsed → Type 0
-RehearsesRecords l transfers marks verdicts t =
-    Outcome (recordRefusals l transfers marks verdicts t) (notRehearsed marks verdicts t)
-    (Rehearses (l .counts) (Channel (sheetIn l)) transfers marks verdicts t)

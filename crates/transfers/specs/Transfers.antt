@@ -2,8 +2,8 @@
 use Prim.Native.Nat.{ℕ, _<_}
 use mathlib.Core.Path.{_≡_}
 use mathlib.Core.List.{List, [], _∷_}
-use Rattle.answers.specs.declared.Counts.{Counts}
-use Rattle.answers.specs.Sheet.{objectEntity}
+use Rattle.tables.specs.declared.Counts.{Counts}
+use Rattle.tables.specs.Sheet.{objectEntity}
 use Rattle.transfers.specs.declared.Act.{Act}
 use Rattle.transfers.specs.declared.Act.the-variants.{Moves, OutOfRange, NotPermitted}
 use Rattle.transfers.specs.declared.Transfer.{Transfer}
@@ -35,8 +35,3 @@ pub data Comes (c : Counts) (ch : ℕ → ℕ → Type 0) (t : Transfer) : Act �
   moves : {a b : ℕ} → Way c t a b → ch a b → Comes c ch t (Moves a b)
   outside : ((a b : ℕ) → Way c t a b → ⊥) → Comes c ch t OutOfRange
   barred : {a b : ℕ} → Way c t a b → (ch a b → ⊥) → Comes c ch t NotPermitted
-
--- each transfer of a list comes to the act at its place
-pub data AllCome (c : Counts) (ch : ℕ → ℕ → Type 0) : List Transfer → List Act → Type 0 where
-  none : AllCome c ch [] []
-  next : {t : Transfer} {act : Act} {ts : List Transfer} {acts : List Act} → Comes c ch t act → AllCome c ch ts acts → AllCome c ch (t ∷ ts) (act ∷ acts)

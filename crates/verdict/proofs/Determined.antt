@@ -1,34 +1,17 @@
 -- The contracts of `chain` and `judge` determine the answer and every lent byte.
 use Prim.Native.Nat.{ℕ}
-use mathlib.Core.Path.{_≡_, sym, ap, _∙_}
+use mathlib.Core.Path.{_≡_}
 use mathlib.Core.List.{List}
-use lib.ListN.{length}
 use Rattle.answers.specs.declared.Told.{Told}
-use Rattle.answers.specs.Call.{told}
-use Rattle.answers.specs.Rows.{over}
-use Rattle.answers.specs.Sheet.{Lent}
+use Rattle.tables.specs.Sheet.{Lent}
 use Rattle.answers.proofs.Calls.{determined}
-use Rattle.theory.proofs.Chains.{chain-flow, one-best}
-use Rattle.verdict.specs.declared.Judged.{Judged}
-use Rattle.verdict.specs.Shown.{Shown, shown, missing, Shows}
-use Rattle.verdict.specs.Judge.{Verdict, hold, broken, Judges}
-use Rattle.verdict.proofs.Verdicts.{one-finding, not-both}
-
-pub one-shown : {ch : ℕ → ℕ → Type 0} {x y : ℕ} {before : List ℕ} {r₁ r₂ : Told × List ℕ} → Shown ch x y before r₁ → Shown ch x y before r₂ → r₁ ≡ r₂
-one-shown {before = before} (shown l b e) (shown m c f) = e ∙ ap (λ (k : List ℕ). (told 0 (length k), over k before)) (one-best b c) ∙ sym f
-one-shown (shown l b e) (missing none f) = absurd (none (chain-flow (b .chain)))
-one-shown (missing none e) (shown l b f) = absurd (none (chain-flow (b .chain)))
-one-shown (missing none e) (missing none′ f) = e ∙ sym f
+use Rattle.separations.specs.declared.Judged.{Judged}
+use Rattle.verdict.specs.Chain.{Shows}
+use Rattle.verdict.specs.Judge.{Judges}
+use Rattle.separations.proofs.Determined.{one-shown, one-verdict}
 
 pub chain-determined : (l : Lent) (x y : ℕ) (before : List ℕ) (r₁ r₂ : Told × List ℕ) → Shows l x y before r₁ → Shows l x y before r₂ → r₁ ≡ r₂
 chain-determined l x y before r₁ r₂ = determined (λ _. one-shown)
-
-module _ {ch : ℕ → ℕ → Type 0} {count : ℕ} {separations before : List ℕ} where
-  pub one-verdict : {r₁ r₂ : Judged × List ℕ} → Verdict ch count separations before r₁ → Verdict ch count separations before r₂ → r₁ ≡ r₂
-  one-verdict (hold all e) (hold all′ f) = e ∙ sym f
-  one-verdict (hold all e) (broken i l p b f) = absurd (not-both p all)
-  one-verdict (broken i l p b e) (hold all f) = absurd (not-both p all)
-  one-verdict (broken i l p b e) (broken j m q c f) = let same = one-finding p q b c in e ∙ rw (same .0, same .1) (sym f)
 
 pub judge-determined : (l : Lent) (count : ℕ) (separations before : List ℕ) (r₁ r₂ : Judged × List ℕ) →
     Judges l count separations before r₁ → Judges l count separations before r₂ → r₁ ≡ r₂

@@ -7,52 +7,18 @@ use native.Mathlib.Decide.{ℕ-discrete}
 use native.Mathlib.Omega.{arith}
 use Rattle.answers.specs.Call.{firstRefusal}
 use Rattle.answers.specs.Rows.{at, Mark}
-use Rattle.answers.specs.Sheet.{Lent, Sheet, sheetIn, sheetOf, entities, from, to}
-use Rattle.answers.specs.Inner.{Listed}
+use Rattle.tables.specs.Sheet.{Lent, Sheet, sheetIn, sheetOf, entities, from, to}
 use Rattle.answers.proofs.Marks.{mark-of, marked-yes}
-use Rattle.answers.proofs.Tables.{at-over}
-use Rattle.graph.specs.Written.{FlowTable}
+use Rattle.rows.specs.Written.{FlowTable}
 use Rattle.access.specs.Channel.{Channel}
-use Rattle.verdict.specs.declared.Judged.{Judged}
-use Rattle.verdict.specs.Judge.{Broken, AllHold, Verdict, hold, broken, judgeRefusals, Judges, Finding}
-use Rattle.verdict.proofs.Verdicts.{one-first}
-use Rattle.verdict.proofs.Bounds.{refusal-low}
+use Rattle.separations.specs.declared.Judged.{Judged}
+use Rattle.separations.specs.Verdict.{Broken, AllHold, broken, Finding}
+use Rattle.verdict.specs.Judge.{judgeRefusals, Judges}
+use Rattle.separations.proofs.Verdicts.{one-first}
+use Rattle.verdict.proofs.Bounds.{refusal-not-14}
 use Rattle.verdict.proofs.Judging.{judgeable}
+use Rattle.separations.proofs.Findings.{told-finding, told-holding, tells-broken, tells-holding, table-marks}
 
--- ---- by the verdict
-module _ {ch : ℕ → ℕ → Type 0} {count : ℕ} {separations before : List ℕ} {j : Judged} {after : List ℕ} where
-  told-finding : Verdict ch count separations before (j, after) → j .answer ≡ 14 → Finding ch count separations before j after
-  told-finding (hold all e) q = let z = ap (λ (r : Judged × List ℕ). r .0 .answer) e in absurd (omega arith)
-  told-finding (broken i l p b e) q =
-      let here : j .position ≡ i = ap (λ (r : Judged × List ℕ). r .0 .position) e in
-      record {
-        first = rw here p;
-        chain = l;
-        best = rw here b;
-        counted = ap (λ (r : Judged × List ℕ). r .0 .count) e;
-        written = ap (λ (r : Judged × List ℕ). r .1) e;
-      }
-
-  told-holding : Verdict ch count separations before (j, after) → j .answer ≡ 0 → AllHold ch count separations × (after ≡ before)
-  told-holding (hold all e) q = (all, ap (λ (r : Judged × List ℕ). r .1) e)
-  told-holding (broken i l p b e) q = let z = ap (λ (r : Judged × List ℕ). r .0 .answer) e in absurd (omega arith)
-
-  tells-broken : Verdict ch count separations before (j, after) → (i : ℕ) → i < count → Broken ch separations i → j .answer ≡ 14
-  tells-broken (hold all e) i h b = absurd (all i h b)
-  tells-broken (broken k l p c e) i h b = ap (λ (r : Judged × List ℕ). r .0 .answer) e
-
-  tells-holding : Verdict ch count separations before (j, after) → AllHold ch count separations → j .answer ≡ 0
-  tells-holding (hold all e) a = ap (λ (r : Judged × List ℕ). r .0 .answer) e
-  tells-holding (broken i l p b e) a = absurd (a i (p .below) (p .broken))
-
--- ---- a flow table that was filled for the channels says which separations are broken
-pub table-marks : {n : ℕ} {ch : ℕ → ℕ → Type 0} {buffer table : List ℕ} → FlowTable n ch buffer table → (count : ℕ) (separations : List ℕ) →
-    Listed n count separations → (i : ℕ) → i < count → Mark (Broken ch separations i) (at table n (from separations i) (to separations i))
-table-marks {buffer = buffer} f count separations listed i h =
-    let b = listed .below i h in
-    rw (f .written, at-over (f .table) buffer (f .marked .size) (b .0) (b .1)) (f .marked .bytes _ _ (b .0) (b .1))
-
--- ---- by the call
 module _ (l : Lent) (count : ℕ) (separations before : List ℕ) (j : Judged) (after : List ℕ) (call : Judges l count separations before (j, after)) where
   -- the sheet that is judged
   abbrev judgedSheet : Sheet
@@ -68,7 +34,7 @@ module _ (l : Lent) (count : ℕ) (separations before : List ℕ) (j : Judged) (
 
   -- 14 and 0 are no refusals
   pub accepted-14 : j .answer ≡ 14 → firstRefusal (judgeRefusals l count separations before) ≡ 0
-  accepted-14 q = unless-refused (λ some e. omega (arith, refusal-low l count separations before))
+  accepted-14 q = unless-refused (λ some e. refusal-not-14 l count separations before (sym e ∙ q))
 
   pub accepted-0 : j .answer ≡ 0 → firstRefusal (judgeRefusals l count separations before) ≡ 0
   accepted-0 q = unless-refused (λ some e. some (sym e ∙ q))

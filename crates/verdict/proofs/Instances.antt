@@ -9,16 +9,17 @@ use lib.Dec.{lit<, lit≤}
 use lib.ListN.{replicate}
 use Rattle.answers.specs.Call.{firstRefusal, _then_, eachBelow}
 use Rattle.answers.specs.Rows.{at, Mark, one, none, anyBelow, over}
-use Rattle.answers.specs.Sheet.{Lent, lent, counts, sheetOf, sheetIn}
-use Rattle.answers.specs.Refusals.{sheetRefusals, pairRefusals, separationRefusals}
+use Rattle.tables.specs.Sheet.{Lent, lent, counts, sheetOf, sheetIn}
+use Rattle.tables.specs.Refusals.{sizeRefusals, usedRefusals, sheetRefusals, pairRefusals, separationRefusals}
 use Rattle.answers.proofs.Calls.{accept}
 use Rattle.theory.specs.Flow.{Flow, here, step}
 use Rattle.theory.specs.Chain.{Chain, alone, link, ended, equal, Best}
 use Rattle.theory.proofs.Flows.{flow-closed, flow-more}
 use Rattle.theory.proofs.Chains.{best-agrees}
-use Rattle.graph.specs.Written.{FlowTable}
+use Rattle.rows.specs.Written.{FlowTable}
 use Rattle.access.specs.Channel.{read, May, Assigned, Plain, Channel, reads, writes}
-use Rattle.verdict.specs.Judge.{judged, broken, judgeRefusals, Judges, Finding}
+use Rattle.separations.specs.Verdict.{judged, broken, Finding}
+use Rattle.verdict.specs.Judge.{judgeRefusals, Judges}
 use Rattle.verdict.proofs.Bounds.{Small, judged-small}
 use Rattle.verdict.proofs.Findings.{finding, table-answered}
 
@@ -73,7 +74,7 @@ unfoldable pub before : List ℕ
 before = replicate 112 9
 
 pub accepted : firstRefusal (judgeRefusals tables 1 separations before) ≡ 0
-unfolding firstRefusal _then_ eachBelow anyBelow sheetRefusals pairRefusals separationRefusals judgeRefusals tables separations before
+unfolding firstRefusal _then_ eachBelow anyBelow sheetRefusals sizeRefusals usedRefusals pairRefusals separationRefusals judgeRefusals tables separations before
 accepted = refl
 
 pub call : Judges tables 1 separations before (judged 14 0 2, 0 ∷ 1 ∷ replicate 110 9)

@@ -2,10 +2,10 @@
 use Prim.Native.Nat.{ℕ, _≤_, _<_}
 use mathlib.Core.Path.{_≡_, refl, sym, _∙_}
 use mathlib.Core.Logic.{_≢_}
-use mathlib.Core.Bool.{Bool, false}
+use mathlib.Core.Bool.{Bool, cond}
 use mathlib.Core.List.{List, [], _∷_}
 use native.Mathlib.Omega.{arith}
-use borrow.Author.Tests.{ltb-false, leb-false, le-leb, lt-leb}
+use borrow.Author.Tests.{ltb-false, leb-false}
 use lib.Dec.{leb}
 use mir.Syntax.{w64}
 use mir.Val.{Fits}
@@ -13,52 +13,38 @@ use Rattle.answers.specs.declared.Told.{Told}
 use Rattle.answers.specs.Call.{Refusal, _if_, _then_, firstRefusal, told}
 use Rattle.answers.specs.Rows.{Bytes, Filled, shorter}
 use Rattle.answers.specs.Sizes.{leastChain}
-use Rattle.answers.specs.Sheet.{Lent, sheetIn, entities}
-use Rattle.answers.specs.Refusals.{sheetRefusals}
-use Rattle.answers.proofs.Calls.{passed, by-first, by-second, passed-then, refuse, accept}
-use Rattle.answers.proofs.Accepted.{sheet-numbered, tables-passed}
+use Rattle.tables.specs.Sheet.{Lent, sheetIn, entities}
+use Rattle.tables.specs.Refusals.{noList, sheetRefusals}
+use Rattle.answers.proofs.Calls.{passed, passed-then, first-refuses, second-decides, refuse, accept}
+use Rattle.tables.proofs.Accepted.{sheet-numbered, tables-passed}
 use Rattle.theory.proofs.Flows.{Has}
 use Rattle.theory.proofs.Chains.{chain-long}
-use Rattle.graph.specs.Written.{ShownChain, shown as written, missing as none}
-use Rattle.graph.proofs.Relations.{bytes-to, bytes-from, chain-agrees}
+use Rattle.chains.specs.Shown.{ShownChain, shown as written, missing as none}
+use Rattle.theory.proofs.Filled.{bytes-to, bytes-from}
+use Rattle.chains.proofs.Relations.{chain-agrees}
 use Rattle.access.specs.Channel.{Channel}
-use Rattle.access.proofs.Filling.{sheet-inside}
-use Rattle.verdict.specs.Shown.{Shown, shown, missing, chainRefusals, Shows}
+use Rattle.access.proofs.Channels.{sheet-inside}
+use Rattle.separations.specs.Shown.{Shown, shown, missing}
+use Rattle.verdict.specs.Chain.{chainRefusals, Shows}
 use Rattle.verdict.specs.Inner.{Showable}
 
 -- the sum of both counts does not wrap once 5 has passed
-pub sum-fits : (short : Bool) (l : Lent) → firstRefusal (sheetRefusals short false l) ≡ 0 → Fits w64 (entities (l .counts))
-sum-fits short l e = let s = tables-passed short false l e .sized in omega (arith, s .subjects, s .objects)
+pub sum-fits : (short : Bool) (l : Lent) → firstRefusal (sheetRefusals short noList l) ≡ 0 → Fits w64 (entities (l .counts))
+sum-fits short l e = let s = tables-passed short noList l e .sized in omega (arith, s .subjects, s .objects)
 
 -- ---- what is refused
--- what the first of two lists refuses is refused by both
-pub refused-first : (first second : List Refusal) (n : ℕ) → n ≡ firstRefusal first → n ≢ 0 → n ≡ firstRefusal (first then second)
-refused-first first second n e some = e ∙ sym (by-first first second (λ none. some (e ∙ none)))
-
 module _ (l : Lent) (x y : ℕ) (chain : List ℕ) where
   abbrev tables : List Refusal
-  tables = sheetRefusals (shorter chain leastChain) false l
+  tables = sheetRefusals (shorter chain leastChain) noList l
 
-  pub by-tables : (n : ℕ) → n ≡ firstRefusal tables → n ≢ 0 → n ≡ firstRefusal (chainRefusals l x y chain)
+  pub by-tables : (k : ℕ) → k ≡ firstRefusal tables → k ≢ 0 → k ≡ firstRefusal (chainRefusals l x y chain)
   unfolding chainRefusals
-  by-tables n e some = refused-first tables _ n e some
+  by-tables k e some = first-refuses tables _ k e some
 
-  module _ (passes : firstRefusal tables ≡ 0) where
-    by-entities : firstRefusal (chainRefusals l x y chain) ≡ firstRefusal ((10 if leb (entities (l .counts)) x) ∷ (10 if leb (entities (l .counts)) y) ∷ [])
-    unfolding chainRefusals
-    by-entities = by-second tables _ (sheet-numbered _ _ l) passes
-
-    pub first-outside : entities (l .counts) ≤ x → 10 ≡ firstRefusal (chainRefusals l x y chain)
-    unfolding firstRefusal
-    first-outside h = rw (by-entities, le-leb _ _ h)
-
-    pub last-outside : x < entities (l .counts) → entities (l .counts) ≤ y → 10 ≡ firstRefusal (chainRefusals l x y chain)
-    unfolding firstRefusal
-    last-outside h g = rw (by-entities, lt-leb _ _ h, le-leb _ _ g)
-
-    pub none-outside : x < entities (l .counts) → y < entities (l .counts) → 0 ≡ firstRefusal (chainRefusals l x y chain)
-    unfolding firstRefusal
-    none-outside h g = rw (by-entities, lt-leb _ _ h, lt-leb _ _ g)
+  pub by-entities : (k n : ℕ) → k ≡ firstRefusal tables → k ≡ 0 → n ≡ cond (leb (entities (l .counts)) x) 10 (cond (leb (entities (l .counts)) y) 10 0) →
+      n ≡ firstRefusal (chainRefusals l x y chain)
+  unfolding chainRefusals firstRefusal
+  by-entities k n e passes f = second-decides tables _ k n (sheet-numbered _ _ l) e passes f
 
   pub showable : firstRefusal (chainRefusals l x y chain) ≡ 0 → Showable l x y chain
   unfolding chainRefusals

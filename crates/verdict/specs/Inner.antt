@@ -1,12 +1,13 @@
--- No promise: it only ties functions together.
-use Prim.Native.Nat.{ℕ, _*_, _≤_, _<_}
-use mathlib.Core.Path.{_≡_}
+-- What the calls rely on once nothing is refused. No promise: it only ties functions together.
+use Prim.Native.Nat.{ℕ, _≤_, _<_}
 use mathlib.Core.List.{List}
 use lib.ListN.{length}
-use Rattle.answers.specs.Sizes.{mostEntities, leastChain, leastSeparations}
-use Rattle.answers.specs.Sheet.{Lent, entities}
-use Rattle.answers.specs.Inner.{Sized, Listed}
-use Rattle.graph.specs.Written.{FlowRow}
+use Rattle.answers.specs.Sizes.{leastChain, leastSeparations}
+use Rattle.tables.specs.Sheet.{Lent, entities, sheetOf}
+use Rattle.tables.specs.Inner.{Sized, Listed}
+use Rattle.access.specs.Channel.{Channel}
+use Rattle.separations.specs.declared.Judged.{Judged}
+use Rattle.separations.specs.Verdict.{Verdict}
 
 -- tables, entities and a chain buffer that were not refused
 pub record Showable (l : Lent) (x y : ℕ) (chain : List ℕ) : Type 0 where
@@ -22,14 +23,6 @@ pub record Judgeable (l : Lent) (count : ℕ) (separations chain : List ℕ) : T
   pub long : leastSeparations ≤ length separations
   pub room : leastChain ≤ length chain
 
--- a channel table of n entities, and separations among them
-pub record Searchable (n : ℕ) (channels : List ℕ) (count : ℕ) (separations : List ℕ) : Type 0 where
-  pub few : n ≤ mostEntities
-  pub table : n * n ≤ length channels
-  pub listed : Listed n count separations
-  pub long : leastSeparations ≤ length separations
-
--- a buffer of n bytes that holds the row of entity `held`, or, where that is no entity, any bytes
-pub record HeldRow (n : ℕ) (ch : ℕ → ℕ → Type 0) (held : ℕ) (row : List ℕ) : Type 0 where
-  pub size : length row ≡ n
-  pub flows : held < n → FlowRow n ch held row
+-- what is judged of the sheet in lent tables
+abbrev pub SheetVerdict : Lent → ℕ → List ℕ → List ℕ → Judged × List ℕ → Type 0
+SheetVerdict l count separations before = Verdict (Channel (sheetOf l count separations)) count separations before

@@ -1,48 +1,20 @@
--- `judge`: the first broken separation, over any relation of channels.
-use Prim.Native.Nat.{ℕ, _<_}
-use mathlib.Core.Path.{_≡_}
-use mathlib.Core.Bool.{false, _||_}
+-- `judge`: the first broken separation of a sheet.
+use Prim.Native.Nat.{ℕ}
+use mathlib.Core.Bool.{_||_}
 use mathlib.Core.List.{List}
-use lib.ListN.{length}
 use Rattle.answers.specs.Sizes.{leastChain, leastSeparations}
 use Rattle.answers.specs.Call.{Refusal, _then_, Outcome}
-use Rattle.answers.specs.Rows.{over, shorter}
-use Rattle.answers.specs.Sheet.{Lent, sheetOf, entities, from, to}
-use Rattle.answers.specs.Refusals.{sheetRefusals, separationRefusals}
-use Rattle.theory.specs.Flow.{Flow}
-use Rattle.theory.specs.Chain.{Best}
+use Rattle.answers.specs.Rows.{shorter}
+use Rattle.tables.specs.Sheet.{Lent, sheetOf, entities}
+use Rattle.tables.specs.Refusals.{noList, sheetRefusals, separationRefusals}
 use Rattle.access.specs.Channel.{Channel}
-use Rattle.verdict.specs.declared.Judged.{Judged}
-
--- "data of entity x must not reach entity y"; "one is broken exactly if such a chain exists", separation i
-abbrev pub Broken : (ℕ → ℕ → Type 0) → List ℕ → ℕ → Type 0
-Broken ch separations i = Flow ch (from separations i) (to separations i)
-
--- "Separations are judged in list order. The first broken one"
-pub record FirstBroken (ch : ℕ → ℕ → Type 0) (count : ℕ) (separations : List ℕ) (i : ℕ) : Type 0 where
-  pub below : i < count
-  pub broken : Broken ch separations i
-  pub before : (j : ℕ) → j < i → Broken ch separations j → ⊥
-
--- none is broken
-abbrev pub AllHold : (ℕ → ℕ → Type 0) → ℕ → List ℕ → Type 0
-AllHold ch count separations = (j : ℕ) → j < count → Broken ch separations j → ⊥
-
--- answer, position and chain count
-abbrev pub judged : ℕ → ℕ → ℕ → Judged
-judged n position count = record { answer = n; position = position; count = count }
-
--- "The first broken one is answered by 14, its position from 0 and its chain"; where all hold, "position and chain count" are 0 and
--- "the chain buffer is then unaltered"
-pub data Verdict (ch : ℕ → ℕ → Type 0) (count : ℕ) (separations before : List ℕ) (result : Judged × List ℕ) : Type 0 where
-  hold : AllHold ch count separations → result ≡ (judged 0 0 0, before) → Verdict ch count separations before result
-  broken : (i : ℕ) (l : List ℕ) → FirstBroken ch count separations i → Best ch (from separations i) (to separations i) l →
-      result ≡ (judged 14 i (length l), over l before) → Verdict ch count separations before result
+use Rattle.separations.specs.declared.Judged.{Judged}
+use Rattle.separations.specs.Verdict.{judged, Verdict}
 
 -- "1, 5, 11; then, if it takes separations, 8, and then the first faulty pair, 6 before 7"
 unfoldable pub judgeRefusals : Lent → ℕ → List ℕ → List ℕ → List Refusal
 judgeRefusals l count separations chain =
-    sheetRefusals (shorter separations leastSeparations || shorter chain leastChain) false l
+    sheetRefusals (shorter separations leastSeparations || shorter chain leastChain) noList l
     then separationRefusals (entities (l .counts)) count separations
 
 -- the contract of `judge`: the answer, and the chain buffer afterwards
@@ -50,11 +22,3 @@ abbrev pub Judges : Lent → ℕ → List ℕ → List ℕ → Judged × List �
 Judges l count separations before =
     Outcome (judgeRefusals l count separations before) (λ n. (judged n 0 0, before))
     (Verdict (Channel (sheetOf l count separations)) count separations before)
-
--- "The first broken separation is named .. and the shortest is shown": what an answer of 14 tells
-pub record Finding (ch : ℕ → ℕ → Type 0) (count : ℕ) (separations before : List ℕ) (j : Judged) (after : List ℕ) : Type 0 where
-  pub first : FirstBroken ch count separations (j .position)
-  pub chain : List ℕ
-  pub best : Best ch (from separations (j .position)) (to separations (j .position)) chain
-  pub counted : j .count ≡ length chain
-  pub written : after ≡ over chain before

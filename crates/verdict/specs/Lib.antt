@@ -1,4 +1,4 @@
--- The shown chain, and the first broken separation. Read in this order.
-pub mod Shown
+-- The calls `chain` and `judge`. Read in this order.
+pub mod Chain
 pub mod Judge
 pub mod Inner

@@ -1,27 +1,17 @@
 // The shown chain, and the first broken separation.
-use answers::Counts;
 use answers::Told;
 use answers::sizes;
+use separations::Judged;
+use tables::Counts;
 ghost use mathlib.Core.Path.{_≡_};
-ghost use Prim.Native.Nat.{_*_, _≤_, _<_};
-ghost use lib.ListN.{length, getD};
-ghost use Rattle.answers.specs.Sizes.{mostEntities};
+ghost use Prim.Native.Nat.{_<_};
 ghost use Rattle.answers.specs.Call.{firstRefusal};
-ghost use Rattle.answers.specs.Rows.{Bytes};
-ghost use Rattle.answers.specs.Sheet.{lent, sheetIn, sheetOf};
-ghost use Rattle.graph.specs.Written.{FlowRow, ShownChain};
-ghost use Rattle.graph.specs.Distance.{Smallest};
+ghost use Rattle.tables.specs.Sheet.{lent, sheetIn};
+ghost use Rattle.chains.specs.Shown.{ShownChain};
 ghost use Rattle.access.specs.Channel.{Channel};
-ghost use Rattle.verdict.specs.Shown.{chainRefusals, Shows};
-ghost use Rattle.verdict.specs.Judge.{Broken, Verdict, judgeRefusals, Judges};
-ghost use Rattle.verdict.specs.Inner.{Showable, HeldRow, Searchable, Judgeable};
-
-// What judging answers: the number, and the position and the chain count of the first broken separation.
-pub struct Judged {
-    pub answer: u8,
-    pub position: usize,
-    pub count: usize,
-}
+ghost use Rattle.verdict.specs.Chain.{chainRefusals, Shows};
+ghost use Rattle.verdict.specs.Judge.{judgeRefusals, Judges};
+ghost use Rattle.verdict.specs.Inner.{Showable, Judgeable, SheetVerdict};
 
 // 1, 5, 11 or 10 of a call that asks for a chain, 0 for none.
 fn chain_refusal(
@@ -34,9 +24,9 @@ fn chain_refusal(
 ) -> u8
     ensures { λ r. ⌜ r ≡ firstRefusal (chainRefusals (lent c (now (assignment .entry)) (now (permission .entry))) x y (now (chain .entry))) ⌝ }
 {
-    let refusal = answers::sheet_refusal(
+    let refusal = refusals::sheet_refusal(
         chain.len() < sizes::LEAST_CHAIN,
-        false,
+        refusals::NO_LIST,
         c,
         assignment,
         permission,
@@ -45,13 +35,8 @@ fn chain_refusal(
         return refusal;
     }
     let n = c.subjects + c.objects;
-    if n <= x {
-        return 10;
-    }
-    if n <= y {
-        return 10;
-    }
-    0
+    let last = answers::refuse(n <= y, 10, 0);
+    answers::refuse(n <= x, 10, last)
 }
 
 // Writes the chain from x to y of a sheet whose tables were not refused, and returns its count of entities: 0 if there is none.
@@ -68,8 +53,8 @@ fn show(
 {
     let n = c.subjects + c.objects;
     let mut channels = [0u8; sizes::LEAST_FLOW];
-    access::fill_channels(c, assignment, permission, &mut channels);
-    graph::show_chain(&channels, n, x, y, chain)
+    channels::fill_channels(c, assignment, permission, &mut channels);
+    chains::show_chain(&channels, n, x, y, chain)
 }
 
 // Writes the chain from x to y: the shortest, and of the shortest the smallest. Tells its count of entities. Refuses with 1, 5, 11, 10
@@ -121,88 +106,12 @@ fn judge_refusal(
         separations.len() < sizes::LEAST_SEPARATIONS,
         chain.len() < sizes::LEAST_CHAIN,
     );
-    let refusal = answers::sheet_refusal(short, false, c, assignment, permission);
+    let refusal = refusals::sheet_refusal(short, refusals::NO_LIST, c, assignment, permission);
     if refusal != 0 {
         return refusal;
     }
     let n = c.subjects + c.objects;
-    answers::separation_refusal(n, count, separations)
-}
-
-// The number at place `k` of the separations.
-fn entity_at(separations: &[u8], k: usize) -> usize
-    requires { ⌜ k < length (now separations) ⌝ }
-    ensures { λ r. ⌜ r ≡ getD (now (separations .entry)) k 0 ⌝ }
-{
-    separations[k] as usize
-}
-
-// Writes the row of x, unless it is the row that the buffer holds.
-fn hold_row(channels: &[u8], n: usize, held: usize, x: usize, row: &mut [u8])
-    requires { ⌜ (n ≤ mostEntities) × (n * n ≤ length (now channels)) × (x < n) × HeldRow n (Bytes n (now channels)) held (now row) ⌝ }
-    ensures { λ _. ⌜ FlowRow n (Bytes n (now (channels .entry))) x (now (row .exit)) ⌝ }
-{
-    if held != x {
-        graph::fill_row(channels, n, x, row);
-    }
-}
-
-// The position of the first broken separation, or `count` where all hold. Separations ascend, so each first entity has its row
-// written once.
-fn first_broken(
-    channels: &[u8],
-    n: usize,
-    count: usize,
-    separations: &[u8],
-    row: &mut [u8],
-) -> usize
-    requires { ⌜ Searchable n (now channels) count (now separations) × (length (now row) ≡ n) ⌝ }
-    ensures { λ r. ⌜ Smallest (λ i. Broken (Bytes n (now (channels .entry))) (now (separations .entry)) i) count r ⌝ }
-{
-    let mut held = n;
-    let mut found = count;
-    let mut i = 0;
-    while i < found {
-        let x = entity_at(separations, 2 * i);
-        let y = entity_at(separations, 2 * i + 1);
-        hold_row(channels, n, held, x, row);
-        held = x;
-        if row[y] == 1 {
-            found = i;
-        }
-        i += 1;
-    }
-    found
-}
-
-// Judges the separations over a channel table, and writes the chain of the first broken one.
-fn judge_channels(
-    channels: &[u8],
-    n: usize,
-    count: usize,
-    separations: &[u8],
-    chain: &mut [u8],
-) -> Judged
-    requires { ⌜ Searchable n (now channels) count (now separations) × (n ≤ length (now chain)) ⌝ }
-    ensures { λ r. ⌜ Verdict (Bytes n (now (channels .entry))) count (now (separations .entry)) (now (chain .entry)) (r, now (chain .exit)) ⌝ }
-{
-    let mut row = [0u8; sizes::MOST_ENTITIES];
-    let first = first_broken(channels, n, count, separations, &mut row[..n]);
-    if first == count {
-        return Judged {
-            answer: 0,
-            position: 0,
-            count: 0,
-        };
-    }
-    let x = entity_at(separations, 2 * first);
-    let y = entity_at(separations, 2 * first + 1);
-    let shown = graph::show_chain(channels, n, x, y, chain);
-    Judged {
-        answer: 14,
-        position: first,
-        count: shown,
-    }
+    refusals::separation_refusal(n, count, separations)
 }
 
 // Judges the separations of a sheet that was not refused. The channel table is filled once, for the search and for the chain.
@@ -215,12 +124,12 @@ fn judge_sheet(
     chain: &mut [u8],
 ) -> Judged
     requires { ⌜ Judgeable (lent c (now assignment) (now permission)) count (now separations) (now chain) ⌝ }
-    ensures { λ r. ⌜ Verdict (Channel (sheetOf (lent c (now (assignment .entry)) (now (permission .entry))) count (now (separations .entry)))) count (now (separations .entry)) (now (chain .entry)) (r, now (chain .exit)) ⌝ }
+    ensures { λ r. ⌜ SheetVerdict (lent c (now (assignment .entry)) (now (permission .entry))) count (now (separations .entry)) (now (chain .entry)) (r, now (chain .exit)) ⌝ }
 {
     let n = c.subjects + c.objects;
     let mut channels = [0u8; sizes::LEAST_FLOW];
-    access::fill_channels(c, assignment, permission, &mut channels);
-    judge_channels(&channels, n, count, separations, chain)
+    channels::fill_channels(c, assignment, permission, &mut channels);
+    judging::judge_channels(&channels, n, count, separations, chain)
 }
 
 // Judges the separations in list order. The first broken one is answered by 14, with its position from 0 and its chain; where all

@@ -1,25 +1,22 @@
--- `change::range_refusal` meets its contract: each return by the tests that led there.
-use borrow.Author.Tests.{le-leb, lt-leb, lt-ltb, le-ltb}
+-- `change::range_refusal` meets its contract: its refusals are those of the list.
+use borrow.Author.Needs.{needs}
 use Rattle.answers.specs.Call.{firstRefusal}
-use Rattle.change.specs.Inner.{rangeRefusals}
+use Rattle.change.specs.Change.{rangeRefusals}
 use Rattle.change.proofs.range_refusal.Statement.{statement}
 use Rattle.change.proofs.range_refusal.Tie as tie
 
+refuse-requires : tie.Need-refuse-requires
+refuse-requires c κs = search needs
+
+refuse-requires-2 : tie.Need-refuse-requires-2
+refuse-requires-2 c κs = search needs
+
+refuse-requires-3 : tie.Need-refuse-requires-3
+refuse-requires-3 c κs = search needs
+
 returns : tie.Need-returns
 unfolding firstRefusal rangeRefusals
-returns c = search (le-leb, lt-leb, lt-ltb, le-ltb)
-
-returns-2 : tie.Need-returns-2
-unfolding firstRefusal rangeRefusals
-returns-2 c = search (le-leb, lt-leb, lt-ltb, le-ltb)
-
-returns-3 : tie.Need-returns-3
-unfolding firstRefusal rangeRefusals
-returns-3 c = search (le-leb, lt-leb, lt-ltb, le-ltb)
-
-returns-4 : tie.Need-returns-4
-unfolding firstRefusal rangeRefusals
-returns-4 c = search (le-leb, lt-leb, lt-ltb, le-ltb)
+returns c = cc
 
 pub range-refusal-spec : {M : Type 1} → statement M
-range-refusal-spec = tie.close (tie.spec returns returns-2 returns-3 returns-4)
+range-refusal-spec = tie.close (tie.spec refuse-requires refuse-requires-2 refuse-requires-3 returns)

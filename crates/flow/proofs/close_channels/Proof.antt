@@ -1,7 +1,8 @@
 -- `flow::close_channels` meets its contract: the rows that close the channel table are the sheet's flow table.
 use borrow.Author.Needs.{needs}
-use Rattle.answers.specs.Sheet.{Lent, lent}
-use Rattle.access.proofs.Filling.{entities-fit, filled-room}
+use Rattle.tables.specs.Sheet.{Lent, lent}
+use Rattle.tables.proofs.Sounds.{entities-fit}
+use Rattle.theory.proofs.Filled.{filled-room}
 use Rattle.flow.proofs.Closing.{closed, table-fits}
 use Rattle.flow.proofs.close_channels.Statement.{statement}
 use Rattle.flow.proofs.close_channels.Tie as tie

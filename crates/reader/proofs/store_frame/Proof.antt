@@ -1,19 +1,7 @@
 -- `reader::store_frame` meets its contract: each kind of frame has its law. Assumes nothing.
 use borrow.Author.Needs.{needs}
 use native.Mathlib.Omega.{arith}
-use Rattle.reader.proofs.Stores.{
-  assignment-room,
-  permission-room,
-  header-fits,
-  assign-place,
-  permit-place,
-  separate-place,
-  header-stored,
-  assign-stored,
-  permit-stored,
-  separate-stored,
-  end-stored,
-}
+use Rattle.reader.proofs.Stores.{assignment-room, permission-room, header-fits, assign-place, permit-place, separate-place, header-stored, assign-stored, permit-stored, separate-stored, end-stored}
 use Rattle.reader.proofs.store_frame.Statement.{statement}
 use Rattle.reader.proofs.store_frame.Tie as tie
 

@@ -21,10 +21,10 @@ state-after-requires : tie.Need-state-after-requires
 state-after-requires c κs = omega (arith, c .before .before .before .before .before .before .before .before .before .before .before .before .before .before .before .before .pre .0 .few-lines, c .before .before .before .before .before .before .before .before .before .before .before .before .before .before .before .before .pre .0 .within .separations)
 
 returns : tie.Need-returns
-returns c = no-bytes-stored _ _ _ _ _ (c .enum-told .given .1)
+returns c = no-bytes-stored _ _ _ (c .enum-told .given .1)
 
 returns-2 : tie.Need-returns-2
-returns-2 c = no-frame-stored _ _ _ _ _ (c .enum-told2 .given .1)
+returns-2 c = no-frame-stored _ _ _ (c .enum-told2 .given .1)
 
 same-length : tie.Need-same-length
 same-length c = search needs
@@ -36,7 +36,7 @@ same-length-3 : tie.Need-same-length-3
 same-length-3 c = search needs
 
 returns-3 : tie.Need-returns-3
-returns-3 c = frame-stored _ _ _ _ _ _ _ _ _ _ (c .before .before .before .before .before .before .before .before .before .before .before .before .line .given .1) (c .state-after .ensures) (c .before .before .before .before .before .before .before .store-frame .ensures)
+returns-3 c = frame-stored _ _ _ _ _ _ (c .before .before .before .before .before .before .before .before .before .before .before .before .line .given .1) (c .state-after .ensures) (c .before .before .before .before .before .before .before .store-frame .ensures)
 
 pub store-line-spec : {M : Type 1} → statement M
 store-line-spec =

@@ -42,39 +42,40 @@ use denote.Triple.Clauses.{ensured, lasts}
 use denote.Triple.Table.{entered, cited}
 use denote.Triple.Walked.{says, Stays, stay-dropped, gave-slice, walkOf, AllGo, goes-dropped, goes-gave-slice, Walks, ends-at, walked, walk-meets}
 use denote.Exit.{yes}
-use Rattle.answers.specs.declared.Counts.{Counts}
-use Rattle.answers.specs.Rows.{Bytes}
-use Rattle.answers.specs.Sheet.{Lent, lent, entities}
+use Rattle.tables.specs.declared.Counts.{Counts}
+use Rattle.tables.specs.Sheet.{Lent, lent}
 use Rattle.transfers.specs.declared.Transfer.{Transfer}
 use Rattle.transfers.specs.declared.Tally.{Tally}
-use Rattle.transfers.specs.declared.Progress.{Progress}
-use Rattle.transfers.specs.declared.Tallied.{Tallied}
-use Rattle.transfers.specs.Rehearse.{RehearsesRecords}
-use Rattle.transfers.specs.Inner.{rehearsedTo, countedRefusals, Begun, Ran, Finishable, finished}
-use Rattle.transfers.proofs.Running.{records-finishable, records-outcome}
+use Rattle.steps.specs.declared.Progress.{Progress}
+use Rattle.runs.specs.declared.Tallied.{Tallied}
+use Rattle.rehearsal.specs.Calls.{RehearsesRecords, rehearsedTo}
+use Rattle.steps.specs.Inner.{stateOf}
+use Rattle.runs.specs.Inner.{countedRefusals, Begun, Ran, Finishable, finished}
+use Rattle.runs.proofs.Running.{records-finishable}
+use Rattle.rehearsal.proofs.Settled.{records-outcome}
 use Rattle.rehearsal.specs.Inner.{Started}
 use Rattle.rehearsal.proofs.LocalBytes.{counted, zeros-typed, lends-bytes, Shared, shares-bytes, gives-up}
-use Rattle.answers.proofs.Counts as C
-use Rattle.answers.proofs.Counts.Laws as C′
+use Rattle.tables.proofs.Counts as C
+use Rattle.tables.proofs.Counts.Laws as C′
 use Rattle.transfers.proofs.Transfer as T
 use Rattle.transfers.proofs.Tally as A
 use Rattle.transfers.proofs.Tally.Laws as A′
-use Rattle.transfers.proofs.Progress as P
-use Rattle.transfers.proofs.Progress.Laws as P′
-use Rattle.transfers.proofs.Tallied as O
-use Rattle.transfers.proofs.Tallied.Laws as O′
-use Rattle.transfers.proofs.begin_records as begin-records
-use Rattle.transfers.proofs.begin_records.Symbol as begin-records-def
-use Rattle.transfers.proofs.begin_records.Symbol.{name as #transfers·begin-records}
-use Rattle.transfers.proofs.begin_records.Met as begin-records-thm
+use Rattle.steps.proofs.Progress as P
+use Rattle.steps.proofs.Progress.Laws as P′
+use Rattle.runs.proofs.Tallied as O
+use Rattle.runs.proofs.Tallied.Laws as O′
+use Rattle.runs.proofs.begin_records as begin-records
+use Rattle.runs.proofs.begin_records.Symbol as begin-records-def
+use Rattle.runs.proofs.begin_records.Symbol.{name as #runs·begin-records}
+use Rattle.runs.proofs.begin_records.Met as begin-records-thm
 use Rattle.rehearsal.proofs.run_records as run-records
 use Rattle.rehearsal.proofs.run_records.Symbol as run-records-def
 use Rattle.rehearsal.proofs.run_records.Symbol.{name as #rehearsal·run-records}
 use Rattle.rehearsal.proofs.run_records.Met as run-records-thm
-use Rattle.transfers.proofs.finish as finish
-use Rattle.transfers.proofs.finish.Symbol as finish-def
-use Rattle.transfers.proofs.finish.Symbol.{name as #transfers·finish}
-use Rattle.transfers.proofs.finish.Met as finish-thm
+use Rattle.runs.proofs.finish as finish
+use Rattle.runs.proofs.finish.Symbol as finish-def
+use Rattle.runs.proofs.finish.Symbol.{name as #runs·finish}
+use Rattle.runs.proofs.finish.Met as finish-thm
 use Rattle.rehearsal.proofs.records_tallied.Key.{name as #rehearsal·records-tallied}
 use Rattle.rehearsal.proofs.records_tallied as this
 use Rattle.rehearsal.proofs.records_tallied.Statement as stated
@@ -204,7 +205,7 @@ module _ {M : Type 1} (𝓤 : URA M) (H : Heap 𝓤) (𝓐 : Atoms 𝓤) (W : Gi
 
   -- what `begin_records` ensures
   abbrev SaidBegun : List ℕ → List ℕ → Progress → Type 0
-  SaidBegun ys zs p = Begun tb (countedRefusals tb (length (ts .now)) (length (m .now)) (length (v .now)) t) (length (ts .now)) ys zs p
+  SaidBegun ys zs p = Begun (countedRefusals (length (ts .now)) (length (m .now)) (length (v .now))) tb t (length (ts .now)) ys zs p
 
   started : (ys zs : List ℕ) (p : Progress) → SaidBegun ys zs p → Started cs zs (ts .now) (m .now) (v .now) p
   started ys zs p e = record { assignment = asg .now; permission = prm .now; tally = t; before = ys; begun = e }
@@ -244,13 +245,13 @@ module _ {M : Type 1} (𝓤 : URA M) (H : Heap 𝓤) (𝓐 : Atoms 𝓤) (W : Gi
 
   -- what `run_records` ensures
   abbrev SaidRan : List ℕ → Progress → List ℕ → List ℕ → Progress → Type 0
-  SaidRan zs p ms vs r = Ran cs (Bytes (entities cs) zs) (ts .now) (p .count) (m .now) (v .now) p ms vs r
+  SaidRan zs p ms vs r = Ran cs zs (ts .now) (p .count) (stateOf (m .now) (v .now) p) (stateOf ms vs r)
 
   can-finish : (ys zs : List ℕ) (p : Progress) (ms vs : List ℕ) (r : Progress) → SaidBegun ys zs p → SaidRan zs p ms vs r → Finishable r t
-  can-finish ys zs p ms vs r e so-far = records-finishable tb (ts .now) (m .now) (v .now) t ys zs p e ms vs r so-far
+  can-finish ys zs p ms vs r e so-far = records-finishable tb (ts .now) (m .now) (v .now) t ys zs p e (stateOf ms vs r) so-far
 
   outcome : (ys zs : List ℕ) (p : Progress) (ms vs : List ℕ) (r : Progress) (out : Tallied) → SaidBegun ys zs p → SaidRan zs p ms vs r → out ≡ finished r t → RehearsesRecords tb (ts .now) (m .now) (v .now) t (rehearsedTo out ms vs)
-  outcome ys zs p ms vs r out e so-far f = records-outcome tb (ts .now) (m .now) (v .now) t ys zs p e ms vs r out so-far f
+  outcome ys zs p ms vs r out e so-far f = records-outcome tb (ts .now) (m .now) (v .now) t ys zs p e (stateOf ms vs r) out so-far f
 
   -- the call of `finish`
   abbrev to-finish : Progress → Finish 𝓤 H 𝓐 at-mem run .Ghost
@@ -263,7 +264,7 @@ module _ {M : Type 1} (𝓤 : URA M) (H : Heap 𝓤) (𝓐 : Atoms 𝓤) (W : Gi
   finished-of : (p : Progress) (r : Tallied) → ent 𝓤 (ensured 𝓤 H 𝓐 finish.ended (finish.clauses 𝓤 H 𝓐 at-mem run) tt (p, (t, tt)) tt r) (fact 𝓤 (r ≡ finished p t))
   finished-of p r = exE 𝓤 _ (λ ws. snd∗ 𝓤 (sem 𝓤 H 𝓐 (lasts finish.ended tt (p, (t, tt)) ws)) (fact 𝓤 (r ≡ finished p t)))
 
-  module _ (Cs : Calls 𝓤 H) (Λ : Loops 𝓤 H) (fm : FmC 𝓤 H (W .laws) Cs) (known-begin : Triple 𝓤 (Cs #transfers·begin-records) (Begin 𝓤 H 𝓐 at-mem run)) (known-run : Triple 𝓤 (Cs #rehearsal·run-records) (Run 𝓤 H 𝓐 at-mem run)) (known-finish : Triple 𝓤 (Cs #transfers·finish) (Finish 𝓤 H 𝓐 at-mem run)) where
+  module _ (Cs : Calls 𝓤 H) (Λ : Loops 𝓤 H) (fm : FmC 𝓤 H (W .laws) Cs) (known-begin : Triple 𝓤 (Cs #runs·begin-records) (Begin 𝓤 H 𝓐 at-mem run)) (known-run : Triple 𝓤 (Cs #rehearsal·run-records) (Run 𝓤 H 𝓐 at-mem run)) (known-finish : Triple 𝓤 (Cs #runs·finish) (Finish 𝓤 H 𝓐 at-mem run)) where
     walk : ent 𝓤 (onEntry 𝓤 H 𝓐 this.signature (κ₀, (κ₁, (κ₂, (κ₃, (κ₄, tt))))) (q₀, (q₁, (q₂, (q₃, (q₄, tt))))) x vals) (WpFn 𝓤 H Cs Λ code.function (mc ∷ sa ∷ sp ∷ st ∷ sm ∷ sv ∷ machA t ∷ []) Post)
     walk =
         qed W ((‵ (flft κ₀ q₀) ⊛ ‵ (flft κ₁ q₁) ⊛ ‵ (flft κ₂ q₂) ⊛ ‵ (flft κ₃ q₃) ⊛ ‵ (flft κ₄ q₄) ⊛ ‵ ftrue) ∷ ‵ (owns (C.the-row ∷ ShrSlice (named 0) κ₀ u8 ∷ ShrSlice (named 1) κ₁ u8 ∷ ShrSlice (named 2) κ₂ T.the-row ∷ MutSlice (named 3) κ₃ u32 ∷ MutSlice (named 4) κ₄ u8 ∷ A.the-row ∷ []) x vals) ∷ []) ∵
@@ -330,7 +331,7 @@ module _ {M : Type 1} (𝓤 : URA M) (H : Heap 𝓤) (𝓐 : Atoms 𝓤) (W : Gi
         keep ! (14 ∷ 13 ∷ 5 ∷ 4 ∷ 2 ∷ 8 ∷ 6 ∷ 0 ∷ []) $ by ! (exits (ls .1 .1 .1 .0) (ls .1 .1 .1 .1 .0) out w₃ em ev (outcome ys (zs .1 .1 .1 .1 .1 .1 .1 .0) p (ls .1 .1 .1 .0) (ls .1 .1 .1 .1 .0) r out e so-far f)))))))))))))))))))))))))))))))))))))))))))))))
 
 module _ {M : Type 1} (𝓤 : URA M) (H : Heap 𝓤) (𝓐 : Atoms 𝓤) (W : Given 𝓤 H 𝓐) (mem : Memory → SProp 𝓤) (run : Routine → Fun 𝓤) where
-  walks : (Cs : Calls 𝓤 H) (Λ : Loops 𝓤 H) → FmC 𝓤 H (W .laws) Cs → Triple 𝓤 (Cs #transfers·begin-records) (Begin 𝓤 H 𝓐 mem run) → Triple 𝓤 (Cs #rehearsal·run-records) (Run 𝓤 H 𝓐 mem run) → Triple 𝓤 (Cs #transfers·finish) (Finish 𝓤 H 𝓐 mem run)
+  walks : (Cs : Calls 𝓤 H) (Λ : Loops 𝓤 H) → FmC 𝓤 H (W .laws) Cs → Triple 𝓤 (Cs #runs·begin-records) (Begin 𝓤 H 𝓐 mem run) → Triple 𝓤 (Cs #rehearsal·run-records) (Run 𝓤 H 𝓐 mem run) → Triple 𝓤 (Cs #runs·finish) (Finish 𝓤 H 𝓐 mem run)
       → Walks 𝓤 H 𝓐 this.ended stayed (WpFn 𝓤 H Cs Λ code.function) (this.clauses 𝓤 H 𝓐 mem run)
   walks Cs Λ fm known-begin known-run known-finish = walked 𝓤 H 𝓐 this.ended stayed (this.clauses 𝓤 H 𝓐 mem run) (WpFn 𝓤 H Cs Λ code.function) (λ κs. (LL.vals C.the-type C′.the-laws, (slice-vals, (slice-vals, (slice-vals, (slice-vals, (slice-vals, (LL.vals A.the-type A′.the-laws, tt))))))))
       (λ κs. (LL.tells C.the-type C′.the-laws, (shr-slice-tells (named 0) (κs .0) u8, (shr-slice-tells (named 1) (κs .1 .0) u8, (shr-slice-tells (named 2) (κs .1 .1 .0) T.the-row, (mut-slice-tells (named 3) (κs .1 .1 .1 .0) u32, (mut-slice-tells (named 4) (κs .1 .1 .1 .1 .0) u8, (LL.tells A.the-type A′.the-laws, tt))))))))
@@ -351,7 +352,7 @@ module _ {M : Type 1} (𝓤 : URA M) (H : Heap 𝓤) (𝓐 : Atoms 𝓤) (W : Gi
   )
 
 meets : {M : Type 1} (𝓤 : URA M) (H : Heap 𝓤) (𝓐 : Atoms 𝓤) → Given 𝓤 H 𝓐 → (mem : Memory → SProp 𝓤) (run : Routine → Fun 𝓤) (𝓣 : Tables 𝓤 H)
-    → Triple 𝓤 (𝓣 .C #transfers·begin-records) (Begin 𝓤 H 𝓐 mem run) → Triple 𝓤 (𝓣 .C #rehearsal·run-records) (Run 𝓤 H 𝓐 mem run) → Triple 𝓤 (𝓣 .C #transfers·finish) (Finish 𝓤 H 𝓐 mem run)
+    → Triple 𝓤 (𝓣 .C #runs·begin-records) (Begin 𝓤 H 𝓐 mem run) → Triple 𝓤 (𝓣 .C #rehearsal·run-records) (Run 𝓤 H 𝓐 mem run) → Triple 𝓤 (𝓣 .C #runs·finish) (Finish 𝓤 H 𝓐 mem run)
     → Meets 𝓤 H 𝓐 this.signature (WpFn 𝓤 H (𝓣 .C) (𝓣 .Λ) code.function) (this.spec 𝓤 H 𝓐 mem run)
 meets 𝓤 H 𝓐 W mem run 𝓣 known-begin known-run known-finish =
     walk-meets 𝓤 H 𝓐 this.ended stayed W (go 𝓤 H 𝓐 W mem run) (this.clauses 𝓤 H 𝓐 mem run)
@@ -363,6 +364,6 @@ records-tallied-spec 𝓤 H 𝓜 𝓖 𝓡 =
     entered 𝓤 H (tripleOf 𝓤 H (𝓖 .A) this.signature (this.spec 𝓤 H (𝓖 .A) (𝓜 .mem) (𝓡 .run)))
     (tables 𝓤 H 𝓜 𝓡 code.env .C) (tables 𝓤 H 𝓜 𝓡 code.env .Λ) #rehearsal·records-tallied code.function (code.unfolded 𝓤 H 𝓜 𝓡)
     (meets 𝓤 H (𝓖 .A) (givenOf 𝓤 H 𝓜 𝓖) (𝓜 .mem) (𝓡 .run) (tablesOf 𝓤 H 𝓜 (tables 𝓤 H 𝓜 𝓡 code.env))
-    (cited 𝓤 H (Begin 𝓤 H (𝓖 .A) (𝓜 .mem) (𝓡 .run)) 𝓜 𝓡 code.env #transfers·begin-records begin-records-def.routine code.calls-transfers·begin-records (begin-records-thm.met 𝓤 H 𝓜 𝓖 𝓡))
+    (cited 𝓤 H (Begin 𝓤 H (𝓖 .A) (𝓜 .mem) (𝓡 .run)) 𝓜 𝓡 code.env #runs·begin-records begin-records-def.routine code.calls-runs·begin-records (begin-records-thm.met 𝓤 H 𝓜 𝓖 𝓡))
     (cited 𝓤 H (Run 𝓤 H (𝓖 .A) (𝓜 .mem) (𝓡 .run)) 𝓜 𝓡 code.env #rehearsal·run-records run-records-def.routine code.calls-rehearsal·run-records (run-records-thm.met 𝓤 H 𝓜 𝓖 𝓡))
-    (cited 𝓤 H (Finish 𝓤 H (𝓖 .A) (𝓜 .mem) (𝓡 .run)) 𝓜 𝓡 code.env #transfers·finish finish-def.routine code.calls-transfers·finish (finish-thm.met 𝓤 H 𝓜 𝓖 𝓡)))
+    (cited 𝓤 H (Finish 𝓤 H (𝓖 .A) (𝓜 .mem) (𝓡 .run)) 𝓜 𝓡 code.env #runs·finish finish-def.routine code.calls-runs·finish (finish-thm.met 𝓤 H 𝓜 𝓖 𝓡)))

@@ -2,7 +2,7 @@
 use contract.Running.{givenOf, tables, tablesOf}
 use denote.Triple.Spec.{tripleOf}
 use denote.Triple.Table.{entered, cited}
-use Rattle.transfers.specs.Rehearse.{RehearsesRecords}
+use Rattle.rehearsal.specs.Calls.{RehearsesRecords}
 use Rattle.transfers.proofs.Transfer as T
 use Rattle.rehearsal.proofs.LentTally.{ByValue, lending-meets}
 use Rattle.rehearsal.proofs.records_tallied.Symbol as tallied-def

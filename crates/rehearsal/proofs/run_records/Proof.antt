@@ -47,26 +47,26 @@ use denote.Triple.Clauses.{ensured, lasts}
 use denote.Triple.Table.{entered, cited}
 use denote.Triple.Walked.{says, needs, Stays, stay-dropped, stay-slice, walkOf, AllGo, goes-dropped, goes-slice, Walks, ends-at, walked, walk-meets}
 use denote.Exit.{yes}
-use Rattle.answers.specs.declared.Counts.{Counts}
-use Rattle.answers.specs.Rows.{Bytes}
-use Rattle.answers.specs.Sheet.{entities, lent}
+use Rattle.tables.specs.declared.Counts.{Counts}
+use Rattle.tables.specs.Sheet.{lent}
 use Rattle.transfers.specs.declared.Transfer.{Transfer}
-use Rattle.transfers.specs.declared.Progress.{Progress}
-use Rattle.transfers.specs.Inner.{noTransfer, Steppable, Stepped, Ran}
-use Rattle.transfers.proofs.Running.{ran-more, records-none, records-within, ran-steppable}
+use Rattle.steps.specs.declared.Progress.{Progress}
+use Rattle.runs.specs.Inner.{noTransfer, Ran}
+use Rattle.steps.specs.Inner.{stateOf, Steppable, Stepped}
+use Rattle.runs.proofs.Running.{ran-more, records-none, records-within, records-steppable}
 use Rattle.rehearsal.specs.Inner.{Started}
 use Rattle.rehearsal.proofs.Again.{LentAgain, lends-at, back-at}
 use Rattle.rehearsal.proofs.Loop.{tests, Reached, Nearer, Nearer-wf}
-use Rattle.answers.proofs.Counts as C
-use Rattle.answers.proofs.Counts.Laws as C′
+use Rattle.tables.proofs.Counts as C
+use Rattle.tables.proofs.Counts.Laws as C′
 use Rattle.transfers.proofs.Transfer as T
 use Rattle.transfers.proofs.Transfer.Laws as T′
-use Rattle.transfers.proofs.Progress as P
-use Rattle.transfers.proofs.Progress.Laws as P′
-use Rattle.transfers.proofs.step_record as step-record
-use Rattle.transfers.proofs.step_record.Symbol as step-record-def
-use Rattle.transfers.proofs.step_record.Symbol.{name as #transfers·step-record}
-use Rattle.transfers.proofs.step_record.Met as step-record-thm
+use Rattle.steps.proofs.Progress as P
+use Rattle.steps.proofs.Progress.Laws as P′
+use Rattle.steps.proofs.step_record as step-record
+use Rattle.steps.proofs.step_record.Symbol as step-record-def
+use Rattle.steps.proofs.step_record.Symbol.{name as #steps·step-record}
+use Rattle.steps.proofs.step_record.Met as step-record-thm
 use Rattle.rehearsal.proofs.run_records.Key.{name as #rehearsal·run-records}
 use Rattle.rehearsal.proofs.run_records as this
 use Rattle.rehearsal.proofs.run_records.Statement as stated
@@ -146,11 +146,8 @@ module _ {M : Type 1} (𝓤 : URA M) (H : Heap 𝓤) (𝓐 : Atoms 𝓤) (W : Gi
   vals = (sc ∷ [], (mc ∷ [], (st ∷ [], (sm ∷ [], (sv ∷ [], (mach begun ∷ [], tt))))))
 
   -- what the first k records leave, and the slices at a list, under a name
-  abbrev ch : ℕ → ℕ → Type 0
-  ch = Bytes (entities cs) (chs .now)
-
   abbrev RanTo : ℕ → List ℕ → List ℕ → Progress → Type 0
-  RanTo k ms vs p = Ran cs ch (ts .now) k (m .now) (v .now) begun ms vs p
+  RanTo k ms vs p = Ran cs (chs .now) (ts .now) k (stateOf (m .now) (v .now) begun) (stateOf ms vs p)
 
   abbrev m-at : GName → List ℕ → RefT (List ℕ)
   m-at δ l = record { ptr = m .ptr; name = δ; now = l }
@@ -200,8 +197,8 @@ module _ {M : Type 1} (𝓤 : URA M) (H : Heap 𝓤) (𝓐 : Atoms 𝓤) (W : Gi
   in-lists : (k : ℕ) → k < n → (k < length (ts .now)) × (k < length (v .now))
   in-lists k h = records-within (lent cs (started .assignment) (started .permission)) (ts .now) (m .now) (v .now) (started .tally) (started .before) (chs .now) begun (started .begun) k h
 
-  can-step : (k : ℕ) (ms vs : List ℕ) (p : Progress) → k < n → RanTo k ms vs p → Steppable cs (chs .now) ms vs k p
-  can-step k ms vs p h so-far = ran-steppable (lent cs (started .assignment) (started .permission)) (ts .now) (m .now) (v .now) (started .tally) (started .before) (chs .now) begun (started .begun) k ms vs p h so-far
+  can-step : (k : ℕ) (ms vs : List ℕ) (p : Progress) → k < n → RanTo k ms vs p → Steppable cs (chs .now) k (stateOf ms vs p)
+  can-step k ms vs p h so-far = records-steppable (lent cs (started .assignment) (started .permission)) (ts .now) (m .now) (v .now) (started .tally) (started .before) (chs .now) begun (started .begun) k (stateOf ms vs p) h so-far
 
   begins : RanTo 0 (m .now) (v .now) begun
   begins = records-none (lent cs (started .assignment) (started .permission)) (ts .now) (m .now) (v .now) (started .tally) (started .before) (chs .now) begun (started .begun)
@@ -252,16 +249,16 @@ module _ {M : Type 1} (𝓤 : URA M) (H : Heap 𝓤) (𝓐 : Atoms 𝓤) (W : Gi
 
   -- what `step_record` ensures of the last lists and of the progress
   abbrev Said : ℕ → List ℕ → List ℕ → Progress → List ℕ → List ℕ → Progress → Type 0
-  Said k ms vs p ms′ vs′ r = Stepped cs ch (elem k) k ms vs p ms′ vs′ r
+  Said k ms vs p ms′ vs′ r = Stepped cs (chs .now) (elem k) k (stateOf ms vs p) (stateOf ms′ vs′ r)
 
   more : (k : ℕ) (ms vs : List ℕ) (p : Progress) (ms′ vs′ : List ℕ) (r : Progress) → k < n → RanTo k ms vs p → Said k ms vs p ms′ vs′ r → RanTo (k + 1) ms′ vs′ r
-  more k ms vs p ms′ vs′ r h so-far e = ran-more cs ch (ts .now) (m .now) (v .now) begun noTransfer k ms vs p ms′ vs′ r (in-lists k h .0) (in-lists k h .1) so-far e
+  more k ms vs p ms′ vs′ r h so-far e = ran-more cs (chs .now) (ts .now) (stateOf (m .now) (v .now) begun) noTransfer k (stateOf ms vs p) (stateOf ms′ vs′ r) (in-lists k h .0) (in-lists k h .1) so-far e
 
   -- where a turn may begin: k records have run, and have left this
   abbrev Turn : Type 0
   Turn = Reached n (length (m .now)) (length (v .now)) RanTo
 
-  module _ (𝓣 : Tables 𝓤 H) (known-step : Triple 𝓤 (𝓣 .C #transfers·step-record) (StepRecord 𝓤 H 𝓐 at-mem run)) (l₀ l₁ l₂ l₃ l₄ l₅ l₆ l₇ l₈ l₉ l₁₀ l₁₁ l₁₂ l₁₃ l₁₄ l₁₅ l₁₆ l₁₇ : ℕ) where
+  module _ (𝓣 : Tables 𝓤 H) (known-step : Triple 𝓤 (𝓣 .C #steps·step-record) (StepRecord 𝓤 H 𝓐 at-mem run)) (l₀ l₁ l₂ l₃ l₄ l₅ l₆ l₇ l₈ l₉ l₁₀ l₁₁ l₁₂ l₁₃ l₁₄ l₁₅ l₁₆ l₁₇ : ℕ) where
     abbrev Cs : Calls 𝓤 H
     Cs = 𝓣 .C
 
@@ -349,7 +346,7 @@ module _ {M : Type 1} (𝓤 : URA M) (H : Heap 𝓤) (𝓐 : Atoms 𝓤) (W : Gi
     looped : {K : Type 0} → K → {E : Env 𝓤 H} → E ≡ En → Seq K W (At start) (runs Cs Λ E body.t-4 (atRet E Post))
     looped k e = record { prf = subst (λ (E : Env 𝓤 H). Sq W (At start) (runs Cs Λ E body.t-4 (atRet E Post))) (sym e) (first ! $ blocks ! $ loops ! 𝓣 (Nearer n (length (m .now)) (length (v .now)) RanTo) (Nearer-wf n (length (m .now)) (length (v .now)) RanTo) At turns start) .prf }
 
-  walk : (𝓣 : Tables 𝓤 H) → Triple 𝓤 (𝓣 .C #transfers·step-record) (StepRecord 𝓤 H 𝓐 at-mem run)
+  walk : (𝓣 : Tables 𝓤 H) → Triple 𝓤 (𝓣 .C #steps·step-record) (StepRecord 𝓤 H 𝓐 at-mem run)
       → ent 𝓤 (onEntry 𝓤 H 𝓐 this.signature (κ₀, (κ₁, (κ₂, (κ₃, tt)))) (q₀, (q₁, (q₂, (q₃, tt)))) x vals) (WpFn 𝓤 H (𝓣 .C) (𝓣 .Λ) code.function (sc ∷ mc ∷ st ∷ sm ∷ sv ∷ mach begun ∷ []) Post)
   walk 𝓣 known-step =
       qed W ((‵ (flft κ₀ q₀) ⊛ ‵ (flft κ₁ q₁) ⊛ ‵ (flft κ₂ q₂) ⊛ ‵ (flft κ₃ q₃) ⊛ ‵ ftrue) ∷ ‵ (owns (ShrSlice (named 0) κ₀ u8 ∷ C.the-row ∷ ShrSlice (named 1) κ₁ T.the-row ∷ MutSlice (named 2) κ₂ u32 ∷ MutSlice (named 3) κ₃ u8 ∷ P.the-row ∷ []) x vals) ∷ []) ∵
@@ -368,7 +365,7 @@ module _ {M : Type 1} (𝓤 : URA M) (H : Heap 𝓤) (𝓐 : Atoms 𝓤) (W : Gi
       move ! (36 ∷ 0 ∷ 1 ∷ 2 ∷ 3 ∷ 4 ∷ 5 ∷ 6 ∷ 7 ∷ 8 ∷ 9 ∷ 10 ∷ 11 ∷ 12 ∷ 13 ∷ 14 ∷ 15 ∷ 16 ∷ 17 ∷ 18 ∷ 19 ∷ 20 ∷ 21 ∷ 22 ∷ 23 ∷ 24 ∷ 25 ∷ 26 ∷ 27 ∷ 28 ∷ 29 ∷ 30 ∷ 31 ∷ 32 ∷ 33 ∷ 34 ∷ 35 ∷ 37 ∷ 38 ∷ 39 ∷ 40 ∷ 41 ∷ 42 ∷ 43 ∷ 44 ∷ 45 ∷ []) $ looped 𝓣 known-step l₀ l₁ l₂ l₃ l₄ l₅ l₆ l₇ l₈ l₉ l₁₀ l₁₁ l₁₂ l₁₃ l₁₄ l₁₅ l₁₆ l₁₇ ! refl))))))))))))))))))
 
 module _ {M : Type 1} (𝓤 : URA M) (H : Heap 𝓤) (𝓐 : Atoms 𝓤) (W : Given 𝓤 H 𝓐) (mem : Memory → SProp 𝓤) (run : Routine → Fun 𝓤) where
-  walks : (𝓣 : Tables 𝓤 H) → Triple 𝓤 (𝓣 .C #transfers·step-record) (StepRecord 𝓤 H 𝓐 mem run) → Walks 𝓤 H 𝓐 this.ended stayed (WpFn 𝓤 H (𝓣 .C) (𝓣 .Λ) code.function) (this.clauses 𝓤 H 𝓐 mem run)
+  walks : (𝓣 : Tables 𝓤 H) → Triple 𝓤 (𝓣 .C #steps·step-record) (StepRecord 𝓤 H 𝓐 mem run) → Walks 𝓤 H 𝓐 this.ended stayed (WpFn 𝓤 H (𝓣 .C) (𝓣 .Λ) code.function) (this.clauses 𝓤 H 𝓐 mem run)
   walks 𝓣 known-step = walked 𝓤 H 𝓐 this.ended stayed (this.clauses 𝓤 H 𝓐 mem run) (WpFn 𝓤 H (𝓣 .C) (𝓣 .Λ) code.function) (λ κs. (slice-vals, (LL.vals C.the-type C′.the-laws, (slice-vals, (slice-vals, (slice-vals, (LL.vals P.the-type P′.the-laws, tt)))))))
       (λ κs. (shr-slice-tells (named 0) (κs .0) u8, (LL.tells C.the-type C′.the-laws, (shr-slice-tells (named 1) (κs .1 .0) T.the-row, (mut-slice-tells (named 2) (κs .1 .1 .0) u32, (mut-slice-tells (named 3) (κs .1 .1 .1 .0) u8, (LL.tells P.the-type P′.the-laws, tt)))))))
       (λ κs qs bounds a g are. needs 𝓤 (Started (a .1 .0) (a .0 .now) (a .1 .1 .0 .now) (a .1 .1 .1 .0 .now) (a .1 .1 .1 .1 .0 .now) (a .1 .1 .1 .1 .1 .0)) _ (λ started.
@@ -387,7 +384,7 @@ module _ {M : Type 1} (𝓤 : URA M) (H : Heap 𝓤) (𝓐 : Atoms 𝓤) (W : Gi
     ),
   )
 
-meets : {M : Type 1} (𝓤 : URA M) (H : Heap 𝓤) (𝓐 : Atoms 𝓤) → Given 𝓤 H 𝓐 → (mem : Memory → SProp 𝓤) (run : Routine → Fun 𝓤) (𝓣 : Tables 𝓤 H) → Triple 𝓤 (𝓣 .C #transfers·step-record) (StepRecord 𝓤 H 𝓐 mem run)
+meets : {M : Type 1} (𝓤 : URA M) (H : Heap 𝓤) (𝓐 : Atoms 𝓤) → Given 𝓤 H 𝓐 → (mem : Memory → SProp 𝓤) (run : Routine → Fun 𝓤) (𝓣 : Tables 𝓤 H) → Triple 𝓤 (𝓣 .C #steps·step-record) (StepRecord 𝓤 H 𝓐 mem run)
     → Meets 𝓤 H 𝓐 this.signature (WpFn 𝓤 H (𝓣 .C) (𝓣 .Λ) code.function) (this.spec 𝓤 H 𝓐 mem run)
 meets 𝓤 H 𝓐 W mem run 𝓣 known-step =
     walk-meets 𝓤 H 𝓐 this.ended stayed W (go 𝓤 H 𝓐 W mem run) (this.clauses 𝓤 H 𝓐 mem run)
@@ -399,4 +396,4 @@ run-records-spec 𝓤 H 𝓜 𝓖 𝓡 =
     entered 𝓤 H (tripleOf 𝓤 H (𝓖 .A) this.signature (this.spec 𝓤 H (𝓖 .A) (𝓜 .mem) (𝓡 .run)))
     (tables 𝓤 H 𝓜 𝓡 code.env .C) (tables 𝓤 H 𝓜 𝓡 code.env .Λ) #rehearsal·run-records code.function (code.unfolded 𝓤 H 𝓜 𝓡)
     (meets 𝓤 H (𝓖 .A) (givenOf 𝓤 H 𝓜 𝓖) (𝓜 .mem) (𝓡 .run) (tablesOf 𝓤 H 𝓜 (tables 𝓤 H 𝓜 𝓡 code.env))
-    (cited 𝓤 H (StepRecord 𝓤 H (𝓖 .A) (𝓜 .mem) (𝓡 .run)) 𝓜 𝓡 code.env #transfers·step-record step-record-def.routine code.calls-transfers·step-record (step-record-thm.met 𝓤 H 𝓜 𝓖 𝓡)))
+    (cited 𝓤 H (StepRecord 𝓤 H (𝓖 .A) (𝓜 .mem) (𝓡 .run)) 𝓜 𝓡 code.env #steps·step-record step-record-def.routine code.calls-steps·step-record (step-record-thm.met 𝓤 H 𝓜 𝓖 𝓡)))

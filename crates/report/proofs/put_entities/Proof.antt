@@ -2,7 +2,7 @@
 use Prim.Native.Nat.{_-_, _≤_}
 use native.Mathlib.Omega.{arith}
 use Rattle.answers.specs.Rows.{Bytes}
-use Rattle.report.specs.Output.{EntityLines}
+use Rattle.output.specs.Output.{EntityLines}
 use Rattle.report.specs.Inner.{PutOutput}
 use Rattle.report.proofs.EachLine.{lines-none, lines-more, lines-all, lines-place}
 use Rattle.report.proofs.put_entities.Statement.{statement}

@@ -2,15 +2,15 @@
 use Prim.Native.Nat.{_<_}
 use native.Mathlib.Omega.{arith}
 use borrow.Author.Needs.{needs}
-use Rattle.report.proofs.Asking.{described, all-bytes}
+use Rattle.report.proofs.Asking.{asked, described, all-bytes}
 use Rattle.report.proofs.put_entity.Statement.{statement}
 use Rattle.report.proofs.put_entity.Tie as tie
 
-class-name-requires : tie.Need-class-name-requires
-class-name-requires c κs = search needs
+smallest-member-requires : tie.Need-smallest-member-requires
+smallest-member-requires c κs = asked _ _ _ (c .before .before .pre .accepted) (c .before .before .pre .entity)
 
-greatest-requires : tie.Need-greatest-requires
-greatest-requires c κs = search needs
+flags-requires : tie.Need-flags-requires
+flags-requires c κs = asked _ _ _ (c .before .before .before .pre .accepted) (c .before .before .before .pre .entity)
 
 label-size-requires : tie.Need-label-size-requires
 label-size-requires c κs = search needs
@@ -23,18 +23,18 @@ module _ (c : tie.After-label-size) where
   abbrev start : tie.Start
   start = c .before .before .before .before .before
 
-  answers-small : (c .before .before .class-name .result .value < 256) × (c .before .greatest .result .value < 256) × (c .label-size .result < 256)
+  answers-small : (c .before .before .smallest-member .result < 256) × (c .before .flags .result < 256) × (c .label-size .result < 256)
   answers-small =
-      all-bytes _ _ _ (start .pre .accepted) (start .pre .entity) _ _ _ (c .before .before .class-name .ensures) (c .before .greatest .ensures) (c .label-size .ensures)
+      all-bytes _ _ _ (start .pre .accepted) (start .pre .entity) _ _ _ (c .before .before .smallest-member .ensures) (c .before .flags .ensures) (c .label-size .ensures)
 
 cast-t11 : tie.Need-cast-t11
-cast-t11 c = omega (arith, answers-small (c .before))
+cast-t11 c = omega (arith, answers-small c)
 
 cast-t12 : tie.Need-cast-t12
-cast-t12 c = omega (arith, answers-small (c .before .before))
+cast-t12 c = omega (arith, answers-small c)
 
 cast-t13 : tie.Need-cast-t13
-cast-t13 c = omega (arith, answers-small (c .before .before))
+cast-t13 c = omega (arith, answers-small c)
 
 slice-aggregate-put-line : tie.Need-slice-aggregate-put-line
 slice-aggregate-put-line c = search needs
@@ -47,15 +47,15 @@ same-length c = search needs
 
 returns : tie.Need-returns
 returns c =
-    let asked = c .before .before .before .before .before .before .before in
-    let s = start asked in
+    let last = c .before .before .before .before .before in
+    let s = start last in
     record {
       line = _;
-      right = described _ _ _ (s .pre .accepted) (s .pre .entity) _ _ _ (asked .before .before .class-name .ensures) (asked .before .greatest .ensures) (asked .label-size .ensures);
+      right = described _ _ _ (s .pre .accepted) (s .pre .entity) _ _ _ (last .before .before .smallest-member .ensures) (last .before .flags .ensures) (last .label-size .ensures);
       put = c .before .before .put-line .ensures;
     }
 
 pub put-entity-spec : {M : Type 1} → statement M
 put-entity-spec =
     tie.close
-    (tie.spec class-name-requires greatest-requires label-size-requires cast-t10 cast-t11 cast-t12 cast-t13 slice-aggregate-put-line put-line-requires same-length returns)
+    (tie.spec smallest-member-requires flags-requires label-size-requires cast-t10 cast-t11 cast-t12 cast-t13 slice-aggregate-put-line put-line-requires same-length returns)

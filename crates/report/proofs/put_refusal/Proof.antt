@@ -1,6 +1,6 @@
 -- `report::put_refusal` meets its contract: the line has the number and the line's two bytes.
 use borrow.Author.Needs.{needs}
-use Rattle.report.specs.Output.{refusalLine}
+use Rattle.output.specs.Output.{refusalLine}
 use Rattle.report.proofs.put_refusal.Statement.{statement}
 use Rattle.report.proofs.put_refusal.Tie as tie
 

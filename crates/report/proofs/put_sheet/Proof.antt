@@ -1,7 +1,7 @@
 -- `report::put_sheet` meets its contract: the flow table is filled, its lines and the verdict's line are written.
 use native.Mathlib.Omega.{arith}
 use borrow.Author.Needs.{needs}
-use Rattle.answers.specs.Sheet.{Lent, lent}
+use Rattle.tables.specs.Sheet.{Lent, lent}
 use Rattle.report.proofs.EachLine.{lines-place}
 use Rattle.report.proofs.Reporting.{is-accepted, sheet-put}
 use Rattle.report.proofs.put_sheet.Statement.{statement}

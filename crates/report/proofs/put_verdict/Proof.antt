@@ -1,7 +1,7 @@
 -- `report::put_verdict` meets its contract, where all hold and where one is broken.
 use native.Mathlib.Omega.{arith}
 use borrow.Author.Needs.{needs}
-use Rattle.answers.specs.Sheet.{Lent, lent}
+use Rattle.tables.specs.Sheet.{Lent, lent}
 use Rattle.report.proofs.VerdictLines.{hold-line, broken-small, broken-line}
 use Rattle.report.proofs.put_verdict.Statement.{statement}
 use Rattle.report.proofs.put_verdict.Tie as tie

@@ -24,7 +24,7 @@ read-requires c κs = search needs
 put-refusal-requires : tie.Need-put-refusal-requires
 put-refusal-requires c κs =
     let read = c .before .before .before .before .before .before in
-    (line-fits _ _ _ _ (record { assignment-long = omega arith; permission-long = omega arith; separations-long = omega arith }) _ (read .read .ensures) (c .before .if2 .taken), omega arith)
+    (line-fits _ _ (record { assignment-long = omega arith; permission-long = omega arith; separations-long = omega arith }) _ (read .read .ensures) (c .before .if2 .taken), omega arith)
 
 same-length : tie.Need-same-length
 same-length c = search needs
@@ -34,7 +34,7 @@ returns-2 c =
     let called = c .before .before .before in
     let read = called .before .before .before .before .before .before in
     refused-reported _ _ (omega arith) _ _
-    (is-refused _ _ _ _ (record { assignment-long = omega arith; permission-long = omega arith; separations-long = omega arith }) _ (read .read .ensures) (called .before .if2 .taken))
+    (is-refused _ _ (record { assignment-long = omega arith; permission-long = omega arith; separations-long = omega arith }) _ (read .read .ensures) (called .before .if2 .taken))
     (c .before .before .put-refusal .ensures)
 
 slice-aggregate-put-sheet : tie.Need-slice-aggregate-put-sheet
@@ -49,7 +49,7 @@ slice-aggregate-put-sheet-3 c = search needs
 put-sheet-requires : tie.Need-put-sheet-requires
 put-sheet-requires c κs =
     let read = c .before .before .before .before .before .before .before .before .before .before in
-    (is-printable (read-done _ _ _ _ _ (read .read .ensures) (omega arith)) (omega arith) (omega arith) (omega arith), omega arith)
+    (is-printable (read-done _ _ _ (read .read .ensures) (omega arith)) (omega arith) (omega arith) (omega arith), omega arith)
 
 same-length-2 : tie.Need-same-length-2
 same-length-2 c = search needs
@@ -58,7 +58,7 @@ returns-3 : tie.Need-returns-3
 returns-3 c =
     let called = c .before .before .before in
     let read = called .before .before .before .before .before .before .before .before .before .before in
-    sheet-reported _ _ (omega arith) (read-done _ _ _ _ _ (read .read .ensures) (omega arith)) (c .before .before .put-sheet .ensures)
+    sheet-reported _ _ (omega arith) (read-done _ _ _ (read .read .ensures) (omega arith)) (c .before .before .put-sheet .ensures)
 
 pub report-spec : {M : Type 1} → statement M
 report-spec =

@@ -1,15 +1,15 @@
 -- `sheet::read` meets its contract: each refusal leaves the tables, and an accepted text fills them. Assumes nothing.
 use borrow.Author.Needs.{needs}
 use mathlib.Core.Path.{sym, _∙_}
-use Rattle.reader.specs.Fill.{Long}
+use Rattle.reader.specs.Fill.{tables, Long}
 use Rattle.sheet.proofs.ReadReturns.{none-short, short-refused, long-text, line-refused, tables-filled}
 use Rattle.sheet.proofs.read.Statement.{statement}
 use Rattle.sheet.proofs.read.Tie as tie
 
 -- the buffers that passed have their least lengths
 long : (c : tie.Else1) →
-    let a = c .before .before .before .before .before .before .args in Long (a .assignment .now) (a .permission .now) (a .separations .now)
-long c = none-short _ _ _ (sym (c .before .some-short .ensures) ∙ c .if1 .left)
+    let a = c .before .before .before .before .before .before .args in Long (tables (a .assignment .now) (a .permission .now) (a .separations .now))
+long c = none-short _ (sym (c .before .some-short .ensures) ∙ c .if1 .left)
 
 some-short-requires : tie.Need-some-short-requires
 some-short-requires c κs = search needs
@@ -18,13 +18,13 @@ refused-reading-requires : tie.Need-refused-reading-requires
 refused-reading-requires c κs = search needs
 
 returns : tie.Need-returns
-returns c = rw (c .refused-reading .ensures) (short-refused _ _ _ _ (sym (c .before .before .some-short .ensures) ∙ c .before .if1 .taken))
+returns c = rw (c .refused-reading .ensures) (short-refused _ _ (sym (c .before .before .some-short .ensures) ∙ c .before .if1 .taken))
 
 refused-reading-requires-2 : tie.Need-refused-reading-requires-2
 refused-reading-requires-2 c κs = search needs
 
 returns-2 : tie.Need-returns-2
-returns-2 c = rw (c .refused-reading2 .ensures) (long-text _ _ _ _ (long (c .before .before)) (c .before .if2 .taken))
+returns-2 c = rw (c .refused-reading2 .ensures) (long-text _ _ (long (c .before .before)) (c .before .if2 .taken))
 
 check-text-requires : tie.Need-check-text-requires
 check-text-requires c κs = search needs
@@ -45,7 +45,7 @@ accepted-reading-requires : tie.Need-accepted-reading-requires
 accepted-reading-requires c κs = search needs
 
 returns-3 : tie.Need-returns-3
-returns-3 c = rw (c .refused-reading3 .ensures) (line-refused _ _ _ _ (long (c .before .before .before .before .before .before)) (c .before .before .before .before .before .if2 .left) _ _ (sym (c .before .before .before .before .check-text .ensures .verdict) ∙ c .before .before .verdict .given .1))
+returns-3 c = rw (c .refused-reading3 .ensures) (line-refused _ _ (long (c .before .before .before .before .before .before)) (c .before .before .before .before .before .if2 .left) _ _ (sym (c .before .before .before .before .check-text .ensures .verdict) ∙ c .before .before .verdict .given .1))
 
 same-length : tie.Need-same-length
 same-length c = search needs
@@ -59,7 +59,7 @@ same-length-3 c = search needs
 returns-4 : tie.Need-returns-4
 returns-4 c =
     rw (c .accepted-reading .ensures)
-    (tables-filled _ _ _ _ (long (c .before .before .before .before .before .before .before .before .before .before .before .before .before .before .before .before)) (c .before .before .before .before .before .before .before .before .before .before .before .before .before .before .before .if2 .left) _ _ _ _ (c .before .before .before .before .before .before .before .before .before .before .before .before .before .before .check-text .ensures) (c .before .before .before .before .before .before .before .before .before .before .before .before .enum-told .given .1) (c .before .before .before .before .before .before .before .before .fill .ensures))
+    (tables-filled _ _ (long (c .before .before .before .before .before .before .before .before .before .before .before .before .before .before .before .before)) (c .before .before .before .before .before .before .before .before .before .before .before .before .before .before .before .if2 .left) _ _ (c .before .before .before .before .before .before .before .before .before .before .before .before .before .before .check-text .ensures) (c .before .before .before .before .before .before .before .before .before .before .before .before .enum-told .given .1) (c .before .before .before .before .before .before .before .before .fill .ensures))
 
 pub read-spec : {M : Type 1} → statement M
 read-spec =

@@ -2,7 +2,7 @@
 use borrow.Author.Needs.{needs}
 use mathlib.Core.Path.{refl}
 use native.Mathlib.Omega.{arith}
-use Rattle.digits.proofs.Places.{start-first, end-within}
+use Rattle.lines.proofs.Places.{start-first, end-within}
 use Rattle.sheet.proofs.Placed.{same-part}
 use Rattle.sheet.proofs.refused_line.Statement.{statement}
 use Rattle.sheet.proofs.refused_line.Tie as tie

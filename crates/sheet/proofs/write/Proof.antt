@@ -2,7 +2,7 @@
 use borrow.Author.Needs.{needs}
 use mathlib.Core.Path.{_≡_, sym, _∙_}
 use native.Mathlib.Omega.{arith}
-use Rattle.answers.specs.Sheet.{Lent, lent}
+use Rattle.tables.specs.Sheet.{Lent, lent}
 use Rattle.sheet.proofs.Wrote.{tablesRefusal, Passed, past-tables, past-all, refused-by-tables, refused-by-pairs, wrote}
 use Rattle.sheet.proofs.write.Statement.{statement}
 use Rattle.sheet.proofs.write.Tie as tie

@@ -1,8 +1,7 @@
--- `verdict::chain_refusal` meets its contract: each return by what was tested.
+-- `verdict::chain_refusal` meets its contract: the tables, and then the entities.
 use mathlib.Core.Path.{sym, _∙_}
-use native.Mathlib.Omega.{arith}
 use borrow.Author.Needs.{needs}
-use Rattle.verdict.proofs.Showing.{by-tables, sum-fits, first-outside, last-outside, none-outside}
+use Rattle.verdict.proofs.Showing.{sum-fits, by-tables, by-entities}
 use Rattle.verdict.proofs.chain_refusal.Statement.{statement}
 use Rattle.verdict.proofs.chain_refusal.Tie as tie
 
@@ -15,14 +14,16 @@ returns c = by-tables _ _ _ _ _ (c .before .sheet-refusal .ensures) (c .if1 .tak
 add-n : tie.Need-add-n
 add-n c = sum-fits _ _ (sym (c .before .before .sheet-refusal .ensures) ∙ c .before .if1 .left)
 
+refuse-requires : tie.Need-refuse-requires
+refuse-requires c κs = search needs
+
+refuse-requires-2 : tie.Need-refuse-requires-2
+refuse-requires-2 c κs = search needs
+
 returns-2 : tie.Need-returns-2
-returns-2 c = first-outside _ _ _ _ (sym (c .before .before .before .sheet-refusal .ensures) ∙ c .before .before .if1 .left) (omega arith)
-
-returns-3 : tie.Need-returns-3
-returns-3 c = last-outside _ _ _ _ (sym (c .before .before .before .before .sheet-refusal .ensures) ∙ c .before .before .before .if1 .left) (omega arith) (omega arith)
-
-returns-4 : tie.Need-returns-4
-returns-4 c = none-outside _ _ _ _ (sym (c .before .before .before .before .sheet-refusal .ensures) ∙ c .before .before .before .if1 .left) (omega arith) (omega arith)
+returns-2 c =
+    let at-else = c .before .before .before in
+    by-entities _ _ _ _ _ _ (at-else .before .sheet-refusal .ensures) (at-else .if1 .left) cc
 
 pub chain-refusal-spec : {M : Type 1} → statement M
-chain-refusal-spec = tie.close (tie.spec sheet-refusal-requires returns add-n returns-2 returns-3 returns-4)
+chain-refusal-spec = tie.close (tie.spec sheet-refusal-requires returns add-n refuse-requires refuse-requires-2 returns-2)

@@ -2,7 +2,7 @@
 use mathlib.Core.Path.{_≡_, sym, _∙_}
 use borrow.Author.Needs.{needs}
 use Rattle.answers.specs.Call.{firstRefusal}
-use Rattle.answers.specs.Sheet.{Lent, lent}
+use Rattle.tables.specs.Sheet.{Lent, lent}
 use Rattle.verdict.proofs.Showing.{sum-fits}
 use Rattle.verdict.proofs.Judging.{tables, by-tables, by-pairs, both-long}
 use Rattle.verdict.proofs.judge_refusal.Statement.{statement}
@@ -39,7 +39,9 @@ separation-refusal-requires c κs =
     both-long (of s) (s .args .count) (s .args .separations .now) (s .args .chain .now) (passed (c .before)) .0
 
 returns-2 : tie.Need-returns-2
-returns-2 c = by-pairs _ _ _ _ _ (passed (c .before .before)) (c .separation-refusal .ensures)
+returns-2 c =
+    let at-else = c .before .before in
+    by-pairs _ _ _ _ _ _ (shared (at-else .before)) (at-else .if1 .left) (c .separation-refusal .ensures)
 
 pub judge-refusal-spec : {M : Type 1} → statement M
 judge-refusal-spec =

@@ -1,8 +1,9 @@
 -- `verdict::judge_sheet` meets its contract: the verdict over the channel table's bytes is that over the sheet's channels.
 use native.Mathlib.Omega.{arith}
 use borrow.Author.Needs.{needs}
-use Rattle.answers.specs.Sheet.{Lent, lent}
-use Rattle.access.proofs.Filling.{entities-fit, filled-room}
+use Rattle.tables.specs.Sheet.{Lent, lent}
+use Rattle.tables.proofs.Sounds.{entities-fit}
+use Rattle.theory.proofs.Filled.{filled-room}
 use Rattle.verdict.proofs.Judging.{of-sheet}
 use Rattle.verdict.proofs.judge_sheet.Statement.{statement}
 use Rattle.verdict.proofs.judge_sheet.Tie as tie

@@ -1,8 +1,9 @@
 -- `verdict::show` meets its contract: the chain of the channel table's bytes is that of the sheet's channels.
 use native.Mathlib.Omega.{arith}
 use borrow.Author.Needs.{needs}
-use Rattle.answers.specs.Sheet.{Lent, lent}
-use Rattle.access.proofs.Filling.{entities-fit, filled-room}
+use Rattle.tables.specs.Sheet.{Lent, lent}
+use Rattle.tables.proofs.Sounds.{entities-fit}
+use Rattle.theory.proofs.Filled.{filled-room}
 use Rattle.verdict.proofs.Showing.{of-sheet}
 use Rattle.verdict.proofs.show.Statement.{statement}
 use Rattle.verdict.proofs.show.Tie as tie

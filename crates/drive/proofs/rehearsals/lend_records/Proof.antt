@@ -42,18 +42,18 @@ use denote.Triple.Clauses.{ensured, lasts}
 use denote.Triple.Table.{entered, cited}
 use denote.Triple.Walked.{needs, Stays, stay-dropped, gave-slice, walkOf, AllGo, goes-dropped, goes-gave-slice, Walks, ends-at, walked, walk-meets}
 use denote.Exit.{yes}
-use Rattle.answers.specs.declared.Counts.{Counts}
+use Rattle.tables.specs.declared.Counts.{Counts}
 use Rattle.transfers.specs.declared.Transfer.{Transfer}
 use Rattle.transfers.specs.declared.Tally.{Tally}
-use Rattle.transfers.specs.declared.Tallied.{Tallied}
-use Rattle.answers.proofs.Counts as C
-use Rattle.answers.proofs.Counts.Laws as C′
+use Rattle.runs.specs.declared.Tallied.{Tallied}
+use Rattle.tables.proofs.Counts as C
+use Rattle.tables.proofs.Counts.Laws as C′
 use Rattle.transfers.proofs.Transfer as R
 use Rattle.transfers.proofs.Transfer.Laws as R′
 use Rattle.transfers.proofs.Tally as A
 use Rattle.transfers.proofs.Tally.Laws as A′
-use Rattle.transfers.proofs.Tallied as O
-use Rattle.transfers.proofs.Tallied.Laws as O′
+use Rattle.runs.proofs.Tallied as O
+use Rattle.runs.proofs.Tallied.Laws as O′
 use Rattle.drive.proofs.LocalRecords.{record-vals, machRs, records-typed, Lent, Lender, lends-records, gives-up}
 use Rattle.drive.proofs.rehearsals.lend_tally_to_records as callee
 use Rattle.drive.proofs.rehearsals.lend_tally_to_records.Symbol as callee-def

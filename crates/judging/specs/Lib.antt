@@ -1,0 +1,2 @@
+-- What the search for a broken separation relies on.
+pub mod Inner

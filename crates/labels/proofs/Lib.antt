@@ -1,0 +1,4 @@
+-- Laws for the proofs of functions.
+pub mod Judged
+pub mod Answering
+pub mod Labelling

@@ -1,0 +1,2 @@
+-- What the functions tell each other.
+pub mod Inner

@@ -1,0 +1,2 @@
+-- "The program and its whole output".
+pub mod Output

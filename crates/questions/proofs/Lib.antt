@@ -1,0 +1,6 @@
+-- Laws of the questions on a flow table.
+pub mod Asked
+pub mod Standing
+pub mod Outcomes
+pub mod Determined
+pub mod Examples

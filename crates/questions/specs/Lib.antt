@@ -1,0 +1,3 @@
+-- The questions on a flow table. Read in this order.
+pub mod Questions
+pub mod Compare

@@ -1,0 +1,2 @@
+-- What the functions of refusals tell each other.
+pub mod Inner

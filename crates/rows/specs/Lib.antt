@@ -1,0 +1,3 @@
+-- Rows of flows, and what ties the functions of their search together. Read in this order.
+pub mod Written
+pub mod Search

@@ -1,0 +1,3 @@
+-- Laws for the proofs of functions.
+pub mod Started
+pub mod Running

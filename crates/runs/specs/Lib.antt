@@ -1,0 +1,2 @@
+-- What the functions of a rehearsal tell each other.
+pub mod Inner

@@ -1,0 +1,6 @@
+-- Laws of the shown chain and of the first broken separation.
+pub mod Verdicts
+pub mod Agreeing
+pub mod Findings
+pub mod Determined
+pub mod Example

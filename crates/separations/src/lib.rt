@@ -1,0 +1,8 @@
+// Broken separations and shown chains, over any relation of channels: definitions and laws. No code but what judging answers.
+
+// What judging answers: the number, and the position and the chain count of the first broken separation.
+pub struct Judged {
+    pub answer: u8,
+    pub position: usize,
+    pub count: usize,
+}

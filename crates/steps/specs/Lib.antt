@@ -1,0 +1,2 @@
+-- What the functions of one transfer tell each other.
+pub mod Inner
