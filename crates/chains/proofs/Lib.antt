@@ -7,3 +7,4 @@ pub mod Rounds
 pub mod Measures
 pub mod Walks
 pub mod Relations
+pub mod Example
