@@ -1,4 +1,4 @@
-// What a subject may do with an object, and the channels of a sheet.
+// The channel table of a sheet, by the list of each subject's roles.
 use answers::sizes;
 use tables::Counts;
 ghost use mathlib.Core.Path.{_≡_};
