@@ -7,6 +7,9 @@ mod oracle;
 #[path = "../outside/sheets.rs"]
 #[allow(dead_code)]
 mod sheets;
+#[path = "../outside/testface.rs"]
+#[allow(dead_code)]
+mod testface;
 
 use method::Counts;
 use oracle::Sheet;
@@ -20,11 +23,9 @@ extern "C" {
     fn sievemarl_judge(s: usize, o: usize, r: usize, assignment: *const u8, assignment_len: usize, permission: *const u8, permission_len: usize, count: usize, separations: *const u8, separations_len: usize, chain: *mut u8, chain_len: usize) -> u32;
 }
 
-#[link(name = "gauge", kind = "static")]
-extern "C" {
-    fn gauge_read(text: *const u8, text_len: usize, assignment: *mut u8, assignment_len: usize, permission: *mut u8, permission_len: usize, separations: *mut u8, separations_len: usize) -> usize;
-    fn gauge_write(s: usize, o: usize, r: usize, assignment: *const u8, assignment_len: usize, permission: *const u8, permission_len: usize, count: usize, separations: *const u8, separations_len: usize, text: *mut u8, text_len: usize) -> usize;
-    fn gauge_report(text: *const u8, text_len: usize, out: *mut u8, out_len: usize) -> usize;
+// The counts as the test face takes them.
+fn counts(c: &Counts) -> testface::Counts {
+    testface::Counts { subjects: c.subjects, objects: c.objects, roles: c.roles }
 }
 
 fn library_fill(c: &Counts, a: &[u8], p: &[u8], flow: &mut [u8]) -> u32 {
@@ -39,8 +40,7 @@ fn library_judge(c: &Counts, a: &[u8], p: &[u8], count: usize, pairs: &[u8], cha
 
 fn library_read(text: &[u8], tables: &mut [u8]) -> u32 {
     let [a, p, pairs] = parts(tables);
-    // SAFETY: as above.
-    unsafe { gauge_read(text.as_ptr(), text.len(), a.as_mut_ptr(), a.len(), p.as_mut_ptr(), p.len(), pairs.as_mut_ptr(), pairs.len()) as u32 }
+    testface::read(text, a, p, pairs).answer as u32
 }
 
 fn rust_read(text: &[u8], tables: &mut [u8]) -> u32 {
@@ -49,13 +49,11 @@ fn rust_read(text: &[u8], tables: &mut [u8]) -> u32 {
 }
 
 fn library_write(c: &Counts, a: &[u8], p: &[u8], count: usize, pairs: &[u8], text: &mut [u8]) -> u32 {
-    // SAFETY: as above.
-    unsafe { gauge_write(c.subjects, c.objects, c.roles, a.as_ptr(), a.len(), p.as_ptr(), p.len(), count, pairs.as_ptr(), pairs.len(), text.as_mut_ptr(), text.len()) as u32 }
+    testface::write(counts(c), a, p, count, pairs, text).value as u32
 }
 
 fn library_report(text: &[u8], out: &mut [u8]) -> u32 {
-    // SAFETY: as above.
-    unsafe { gauge_report(text.as_ptr(), text.len(), out.as_mut_ptr(), out.len()) as u32 }
+    testface::report(text, out).value as u32
 }
 
 // The three tables of a reading, in one buffer.
@@ -124,7 +122,8 @@ fn main() {
         let pairs = oracle::over(&t.pairs(), &[0; 128]);
         let count = t.separations.len();
         report("write", kind, least_times(44240, |text| library_write(&c, &a, &p, count, &pairs, text), |text| method::write(&c, &a, &p, count, &pairs, text) as u32));
-    }    for (kind, t) in &sheets {
+    }
+    for (kind, t) in &sheets {
         let text = t.text();
         report("report", kind, least_times(1435, |out| library_report(&text, out), |out| method::report(&text, out) as u32));
     }

@@ -1,5 +1,28 @@
-// A case for the program `drive`, and what it should answer: six numbers and six buffers, before and after. The calls, their numbers
-// and their buffers are those of drive's head comment. Each buffer is sent between guard bytes, which must come back as they were.
+// A case, and what it should answer: six numbers and six buffers, before and after. Those that a call does not name are left out of it
+// (an answer's number is then 0).
+//
+// READ              text, assignment, permission, separations              answer, line, S, O, R, count
+// WRITE             S, O, R, count; assignment, permission, separations, text        answer, length
+// REFUSED_LINE      line; text                                             0, and the part's buffer, place and length
+// FILL              S, O, R; assignment, permission, flow                  answer
+// FLOWS             N, x, y; flow                                          answer, value
+// LABEL_OF          N, x; flow, label                                      answer, size
+// CLASS_NAME        N, x; flow                                             answer, name
+// COMPARE           N, x, y; flow                                          answer, and 1 equal, 2 below, 3 above, 4 incomparable
+// GREATEST          N, x; flow                                             answer, flags
+// EFFECT_OF         N; before, after, effect                               answer
+// CHOSEN_ROW        N, choice, x; before, after                            0, and the part's buffer, place and length
+// SET_ASSIGNMENT    S, O, R, s, r, value; assignment, permission           answer
+// SET_PERMISSION    S, O, R, r, o, mode; assignment, permission            answer
+// SHOWN_CHAIN       S, O, R, x, y; assignment, permission, chain           answer, count
+// JUDGE             S, O, R, count; assignment, permission, separations, chain       answer, position, count
+// NEW_TALLY                                                                0, applied, outside, barred
+// REHEARSE          S, O, R, tally; assignment, permission, transfers, marks, verdicts     answer, applied, tally
+// REHEARSE_RECORDS  the same, with each three bytes of transfers as one record             the same
+// REPORT            text, out                                              answer, length
+//
+// A tally is three numbers: applied, outside and barred, each modulo 2^32. Marks are numbers of four bytes, high byte first: as many as
+// the buffer has whole fours. There are as many records as the buffer has whole threes.
 use crate::oracle::*;
 
 #[derive(Clone, Debug, PartialEq, Eq)]
@@ -36,13 +59,7 @@ pub const REHEARSE_RECORDS: u8 = 18;
 pub const REPORT: u8 = 19;
 pub const CALLS: std::ops::RangeInclusive<u8> = READ..=REPORT;
 
-const GUARD: [u8; 16] = [0xa5; 16];
-
-fn guarded(part: &[u8]) -> Vec<u8> {
-    [&GUARD, part, &GUARD].concat()
-}
-
-fn six<T: Default>(given: Vec<T>) -> [T; 6] {
+pub fn six<T: Default>(given: Vec<T>) -> [T; 6] {
     let mut all = given;
     while all.len() < 6 {
         all.push(T::default());
@@ -63,21 +80,6 @@ fn refused(number: u8) -> Outcome {
 }
 
 impl Case {
-    // The case as `drive` reads it.
-    pub fn line(&self) -> Vec<u8> {
-        let mut bytes = vec![self.call];
-        for n in self.numbers {
-            bytes.extend(n.to_be_bytes());
-        }
-        for b in &self.buffers {
-            bytes.extend((guarded(b).len() as u32).to_be_bytes());
-        }
-        for b in &self.buffers {
-            bytes.extend(guarded(b));
-        }
-        line(&bytes)
-    }
-
     // What document 01 says the call answers and leaves.
     pub fn expected(&self) -> Answer {
         let (numbers, changed) = self.outcome();
@@ -100,7 +102,7 @@ impl Case {
             SET_ASSIGNMENT | SET_PERMISSION => self.change(),
             SHOWN_CHAIN => self.chain(),
             JUDGE => self.judge(),
-            NEW_TALLY => (vec![0, 0, 0], vec![]),
+            NEW_TALLY => (vec![0, 0, 0, 0], vec![]),
             REHEARSE | REHEARSE_RECORDS => self.rehearse(),
             REPORT => self.report(),
             other => panic!("no call has the number {other}"),
@@ -144,7 +146,7 @@ impl Case {
     fn refused_line(&self) -> Outcome {
         let text = &self.buffers[0];
         let (start, length) = refused_line(text, self.numbers[0]);
-        (vec![length as u64], vec![(1, text[start..start + length].to_vec())])
+        (vec![0, 0, start as u64, length as u64], vec![])
     }
 
     fn fill(&self) -> Outcome {
@@ -197,9 +199,8 @@ impl Case {
     fn chosen_row(&self) -> Outcome {
         let (n, choice, x) = (self.number(0), self.number(1), self.number(2));
         let bad = self.buffers[0].len() < FLOW || self.buffers[1].len() < FLOW || n > 112 || choice > 1 || x >= n;
-        let row = if bad { vec![] } else { self.buffers[choice][x * n..x * n + n].to_vec() };
-        let room = self.buffers[2].len().min(row.len());
-        (vec![row.len() as u64], vec![(2, row[..room].to_vec())])
+        let part = if bad { [0, 0, 0] } else { [choice, x * n, n] };
+        (vec![0, part[0] as u64, part[1] as u64, part[2] as u64], vec![])
     }
 
     fn change(&self) -> Outcome {
@@ -275,27 +276,4 @@ impl Case {
         let output = output(&self.buffers[0]);
         (vec![0, output.len() as u64], vec![(1, output)])
     }
-}
-
-// The answer line of `drive` for a case; none where a length or a guard is not as it was.
-pub fn answer(case: &Case, text: &[u8]) -> Option<Answer> {
-    let size: usize = case.buffers.iter().map(|b| b.len() + 2 * GUARD.len()).sum();
-    let digits = text.strip_suffix(b"\n")?;
-    if digits.len() != 2 * (48 + size) {
-        return None;
-    }
-    let value = |d: u8| (d as char).to_digit(16).map(|v| v as u8);
-    let bytes: Vec<u8> = digits.chunks(2).map(|d| Some(value(d[0])? * 16 + value(d[1])?)).collect::<Option<_>>()?;
-    let mut numbers = [0; 6];
-    for (i, n) in numbers.iter_mut().enumerate() {
-        *n = u64::from_be_bytes(bytes[8 * i..8 * i + 8].try_into().unwrap());
-    }
-    let mut rest = &bytes[48..];
-    let mut buffers = vec![];
-    for b in &case.buffers {
-        let (part, after) = rest.split_at(b.len() + 2 * GUARD.len());
-        buffers.push(part.strip_prefix(&GUARD)?.strip_suffix(&GUARD)?.to_vec());
-        rest = after;
-    }
-    Some(Answer { numbers, buffers: six(buffers) })
 }

@@ -1,15 +1,15 @@
-// The outside tests: cases from a seed and from a list of texts, run through the built program `drive` and compared with an
-// independent implementation. usage: run DRIVE TEXTS [SEED [COUNT]]. The last line is 'N passed, M failed'.
+// The outside tests: cases from a seed and from a list of texts, made through the test face and compared with an independent
+// implementation. usage: run TEXTS [SEED [COUNT]]. The last line is 'N passed, M failed'.
 mod cases;
 mod limits;
+mod made;
 mod oracle;
 mod sheets;
+mod testface;
 
 use cases::*;
 use oracle::*;
 use sheets::*;
-use std::io::{BufRead, BufReader, Write};
-use std::process::{Command, Stdio};
 
 // ---- the text of a sheet
 
@@ -60,7 +60,7 @@ fn texts_of(t: &Sheet, random: &mut Random) -> Vec<Case> {
     let i = 1 + random.below(3);
     let kept = random.below(short.buffers[i].len());
     short.buffers[i].truncate(kept);
-    let mut all = vec![read_case(t.text(), random), short, case(REFUSED_LINE, vec![line], vec![d.clone(), vec![7; d.len() + 3]])];
+    let mut all = vec![read_case(t.text(), random), short, case(REFUSED_LINE, vec![line], vec![d.clone()])];
     all.push(report_case(t.text(), random));
     all.push(report_case(d.clone(), random));
     all.push(read_case(d, random));
@@ -195,7 +195,7 @@ fn effect_case(n: usize, before: &[u8], after: &[u8], random: &mut Random) -> Ca
 
 fn row_case(n: usize, before: &[u8], after: &[u8], random: &mut Random) -> Case {
     let numbers = vec![n as u64, random.below(3) as u64, random.below(n + 1) as u64];
-    case(CHOSEN_ROW, numbers, vec![lent(before, FLOW, random), lent(after, FLOW, random), vec![9; 130]])
+    case(CHOSEN_ROW, numbers, vec![lent(before, FLOW, random), lent(after, FLOW, random)])
 }
 
 // ---- all calls on a sheet
@@ -372,44 +372,36 @@ fn random_cases(seed: u64, count: usize) -> Vec<Case> {
     assert_eq!(judged.expected().numbers[..3], [14, 0, 97]);
     all.push(judged);
     all.push(report_case(longest.text(), r));
-    all.push(case(REFUSED_LINE, vec![u64::MAX], vec![b"ab\nc".to_vec(), vec![7; 9]]));
-    all.push(case(REFUSED_LINE, vec![1], vec![vec![], vec![7; 9]]));
+    all.push(case(REFUSED_LINE, vec![u64::MAX], vec![b"ab\nc".to_vec()]));
+    all.push(case(REFUSED_LINE, vec![1], vec![vec![]]));
     all
 }
 
 // ---- the run
 
-// Runs all cases through `drive`, and counts those that it does not answer as it should.
-fn failures(drive: &str, all: &[Case]) -> usize {
-    let mut child = Command::new(drive).stdin(Stdio::piped()).stdout(Stdio::piped()).spawn().expect("drive");
-    let mut input = child.stdin.take().unwrap();
-    let mut output = BufReader::new(child.stdout.take().unwrap());
-    std::thread::scope(|scope| {
-        scope.spawn(move || all.iter().all(|c| input.write_all(&c.line()).is_ok()));
-        let mut failed = 0;
-        for c in all {
-            let mut text = vec![];
-            output.read_until(b'\n', &mut text).expect("an answer");
-            let (got, should) = (answer(c, &text), c.expected());
-            if got.as_ref() != Some(&should) {
-                failed += 1;
-                if failed <= 5 {
-                    let lengths = c.buffers.each_ref().map(|b| b.len());
-                    println!("call {} numbers {:?} lengths {lengths:?}: should answer {:?}, answered {:?}", c.call, c.numbers, should.numbers, got.map(|g| g.numbers));
-                }
+// Makes the calls of all cases, and counts those that are not answered as they should be.
+fn failures(all: &[Case]) -> usize {
+    let mut failed = 0;
+    for c in all {
+        let (got, should) = (made::made(c), c.expected());
+        if got.as_ref() != Some(&should) {
+            failed += 1;
+            if failed <= 5 {
+                let lengths = c.buffers.each_ref().map(|b| b.len());
+                println!("call {} numbers {:?} lengths {lengths:?}: should answer {:?}, answered {:?}", c.call, c.numbers, should.numbers, got.map(|g| g.numbers));
             }
         }
-        failed
-    })
+    }
+    failed
 }
 
 fn main() {
     let words: Vec<String> = std::env::args().collect();
-    let seed = words.get(3).map_or(20261115, |w| w.parse().unwrap());
-    let count = words.get(4).map_or(400, |w| w.parse().unwrap());
+    let seed = words.get(2).map_or(20261115, |w| w.parse().unwrap());
+    let count = words.get(3).map_or(400, |w| w.parse().unwrap());
     let mut random = Random(seed | 1);
     let mut all = vec![];
-    for (number, at, text) in listed(&words[2]).into_iter().chain(long_texts()) {
+    for (number, at, text) in listed(&words[1]).into_iter().chain(long_texts()) {
         let c = read_case(text, &mut random);
         let e = c.expected();
         assert_eq!((e.numbers[0], e.numbers[1]), (number as u64, at as u64), "the listed answer of {:?}", String::from_utf8_lossy(&c.buffers[0]));
@@ -423,7 +415,7 @@ fn main() {
         println!("call {call}: {cases} cases, {accepted} with answer 0");
         assert!(accepted > 0, "call {call} is only refused");
     }
-    let failed = failures(&words[1], &all);
+    let failed = failures(&all);
     println!("{} passed, {} failed", all.len() - failed, failed);
     std::process::exit((failed > 0) as i32);
 }

@@ -9,6 +9,7 @@ ghost use lib.ListN.{length};
 ghost use Rattle.answers.specs.Rows.{someAbove};
 
 // An answer number and the one value that goes with it: 0 on a refusal, and where there is nothing to tell.
+#[repr(C)]
 pub struct Told {
     pub answer: u8,
     pub value: usize,

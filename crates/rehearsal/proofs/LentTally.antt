@@ -60,7 +60,7 @@ byValue R = record {
   kept = (yes, (yes, (yes, (yes, (yes, (yes, (yes, tt)))))));
 }
 
-abbrev lending : RattleType → Ended
+abbrev pub lending : RattleType → Ended
 lending R = record {
   signature = record { lifetimes = 6; outlives = []; params = plain (λ _. C.the-row) ∷ shrSliceOf (0 ∷ []) tt (plain (λ _. u8)) ∷ shrSliceOf (1 ∷ []) tt (plain (λ _. u8)) ∷ shrSliceOf (2 ∷ []) tt (plain (λ _. R)) ∷ mutSliceOf (3 ∷ []) tt (plain (λ _. u32)) ∷ mutSliceOf (4 ∷ []) tt (plain (λ _. u8)) ∷ mutRefTo (5 ∷ []) tt (plain (λ _. A.the-row)) ∷ []; result = plain (λ _. N.the-row) };
   kept = (yes, (yes, (yes, (yes, (yes, (yes, (yes, tt)))))));

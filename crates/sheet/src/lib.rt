@@ -12,6 +12,7 @@ ghost use Rattle.sheet.specs.RefusedLine.{RefusedLine};
 ghost use Rattle.sheet.specs.Inner.{refusedBy, acceptedWith, anyShort};
 
 // What reading answers: the number and the line of a refusal, or the counts of an accepted sheet.
+#[repr(C)]
 pub struct Reading {
     pub answer: u8,
     pub line: usize,

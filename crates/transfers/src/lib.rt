@@ -8,6 +8,7 @@ pub enum Act {
 }
 
 // A transfer: mode 1 moves from object to subject, 2 the other way.
+#[repr(C)]
 pub struct Transfer {
     pub subject: u8,
     pub object: u8,
@@ -15,6 +16,7 @@ pub struct Transfer {
 }
 
 // The running counts of the verdict bytes 0, 10 and 16.
+#[repr(C)]
 pub struct Tally {
     pub applied: u32,
     pub outside: u32,

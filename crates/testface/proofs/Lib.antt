@@ -1,0 +1,2 @@
+-- The walk of the two forwarders that are lent a tally.
+pub mod Forwarding
