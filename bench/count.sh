@@ -1,6 +1,6 @@
 #!/usr/bin/env bash
 # The instructions of each call on each kind of sheet, counted by valgrind: a line for each, CALL KIND COUNT. Calls that begin with rust_
-# are the same methods in Rust. usage: bench/count.sh, after rt staticlib sievemarl and rt staticlib testface
+# are the same methods in Rust. Library functions are bound at the start, so that no call counts the search for one. usage: bench/count.sh, after rt staticlib sievemarl and rt staticlib testface
 set -eu
 cd "$(dirname "$0")/.."
 rustc --edition 2021 -O -L target/staticlib -o target/count bench/count.rs
@@ -8,7 +8,7 @@ for call in fill judge read write refused_line report chain set_assignment set_p
     name=testface_$call
     case $call in fill) name=sievemarl_fill_flow ;; judge) name=sievemarl_judge ;; rust_*) name=$call ;; esac
     for kind in 0 1 2 3 4 5; do
-        count=$(valgrind --tool=callgrind --toggle-collect="$name" --callgrind-out-file=/dev/null target/count "$call" "$kind" 2>&1 | sed -n 's/.*Collected : //p')
+        count=$(LD_BIND_NOW=1 valgrind --tool=callgrind --toggle-collect="$name" --callgrind-out-file=/dev/null target/count "$call" "$kind" 2>&1 | sed -n 's/.*Collected : //p')
         echo "$call $kind $count"
     done
 done

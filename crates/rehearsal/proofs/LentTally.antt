@@ -1,8 +1,8 @@
 -- A rehearsal with a lent tally, over the one with its tally by value: `let out = f(.., *tally); *tally = out.tally; out.told`, for any
--- callee f and any list, of bytes or of records. A walk of that body, by hand: the tally's borrow is opened and the record copied out; f
+-- callee f and any list, of bytes or of records. A walk of that body: the tally's borrow is opened and the record copied out; f
 -- is given the slices at their own lifetimes and that copy; of what it returned the tally is stored in its place, and the borrow is
 -- closed at it. Both contracts say the same of the same values (Q), so the walk carries one fact over and knows nothing of what it says.
--- Assumes nothing.
+-- Written by tools/walks.py, from tools/lent_tally.py and its template, and not edited by hand. Assumes nothing.
 use mathlib.Core.Path.{_≡_, refl, ap}
 use Prim.Native.Nat.{ℕ}
 use mathlib.Core.List.{[], _∷_, List}

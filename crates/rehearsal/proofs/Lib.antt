@@ -8,7 +8,7 @@ pub mod SmallSheet
 pub mod SmallCalls
 pub mod Instances
 pub mod RefusalOrder
--- For the proofs of functions. The walks are done by hand, since the borrow checker covers no reference to a struct.
+-- For the proofs of functions. The walks are written by tools/walks.py, since the borrow checker covers no reference to a struct.
 pub mod Settled
 pub mod Again
 pub mod Loop

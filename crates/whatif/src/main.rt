@@ -31,7 +31,7 @@ fn print_effect(x: usize, effect: u8) {
     }
 }
 
-// Bytes past the last entity stay 0.
+// Looks at all bytes: those past the last entity stay 0.
 fn print_effects(effect: &[u8]) {
     for x in 0..effect.len() {
         print_effect(x, effect[x]);
@@ -74,8 +74,11 @@ fn read_and_ask(text: &[u8]) {
     ask(reading.counts, &assignment, &mut permission);
 }
 
+// One byte more than a text may have, so that a longer one is refused.
+const ROOM: usize = sizes::MOST_TEXT + 1;
+
 fn main() {
-    let mut text = [0u8; sizes::MOST_TEXT];
+    let mut text = [0u8; ROOM];
     let size = io::read_full(STDIN_FILENO, &mut text);
     read_and_ask(&text[..size]);
 }

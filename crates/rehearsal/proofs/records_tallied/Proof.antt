@@ -1,6 +1,7 @@
--- `records_tallied` meets its contract: a walk of its MIR, by hand, with three calls. The local channel table is lent to `begin_records` as
+-- `records_tallied` meets its contract: a walk of its MIR, with three calls. The local channel table is lent to `begin_records` as
 -- `&mut`, and then to `run_records` as `&`, each for a lifetime that is made for the call; the marks and the verdict bytes go to
--- `run_records` at their own lifetimes. All that the proof knows of the three is that each meets its contract. Assumes nothing.
+-- `run_records` at their own lifetimes. All that the proof knows of the three is that each meets its contract.
+-- Written by tools/walks.py, from tools/records_tallied.py and its template, and not edited by hand. Assumes nothing.
 use mathlib.Core.Path.{_≡_, refl, _∙_, ap}
 use Prim.Native.Nat.{ℕ, _≤_}
 use native.Mathlib.Omega.{arith}

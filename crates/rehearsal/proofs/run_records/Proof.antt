@@ -1,7 +1,8 @@
--- `run_records` meets its contract: a walk of its MIR, by hand, with a loop. The invariant at k: the two `&mut` slices and the progress are
+-- `run_records` meets its contract: a walk of its MIR, with a loop. The invariant at k: the two `&mut` slices and the progress are
 -- what the first k records leave (`Ran`). A turn reads record k out of the slice of records, lends the two slices again to `step_record`,
 -- each for a lifetime that is made for the call, and takes them back. The channel table is copied for the call.
--- All that the proof knows of `step_record` is that it meets its contract. Assumes nothing.
+-- All that the proof knows of `step_record` is that it meets its contract.
+-- Written by tools/walks.py, from tools/run_records.py and its template, and not edited by hand. Assumes nothing.
 use mathlib.Core.Path.{_≡_, refl, sym, _∙_, ap, subst}
 use Prim.Native.Nat.{ℕ, _+_, _*_, _<_, _≤_, _^_, zero-le}
 use native.Mathlib.Nat.{le-antisymm}
@@ -236,13 +237,13 @@ module _ {M : Type 1} (𝓤 : URA M) (H : Heap 𝓤) (𝓐 : Atoms 𝓤) (W : Gi
       move ! (1 ∷ 0 ∷ []) $ join ! $
       frame ! $
       -- what the arguments own
-      move ! (1 ∷ []) $ nothing ! $ move ! (1 ∷ 0 ∷ []) $ fjoin ! $ owned ! T.the-row (Is T.the-row) (LL.makes T.the-type T′.the-plain 𝓤 H 𝓐) (elem k) _ is $ fjoin ! $ owned ! usize (Is usize) (uint-makes 𝓤 H 𝓐 W w64) k _ (refl, k-fits k below) $ fjoin ! $
+      move ! (1 ∷ []) $ nothing ! $ move ! (1 ∷ 0 ∷ []) $ fjoin ! $
+      owned ! T.the-row (Is T.the-row) (LL.makes T.the-type T′.the-plain 𝓤 H 𝓐) (elem k) _ is $ fjoin ! $ owned ! usize (Is usize) (uint-makes 𝓤 H 𝓐 W w64) k _ (refl, k-fits k below) $ fjoin ! $
       move ! (1 ∷ []) $ split ! $ move ! (1 ∷ []) $ split ! $ move ! (1 ∷ []) $ split ! $
       move ! (1 ∷ 4 ∷ []) $ fjoin ! $
       move ! (1 ∷ 0 ∷ []) $ fjoin ! $
       move ! (1 ∷ 0 ∷ []) $ fjoin ! $
-      move ! (1 ∷ 0 ∷ []) $ fjoin ! $
-      done !
+      move ! (1 ∷ 0 ∷ []) $ fjoin ! $ done !
     where
       below : k ≤ n
       below = omega arith
