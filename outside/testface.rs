@@ -44,7 +44,7 @@ pub struct Tally {
     pub barred: u32,
 }
 
-// A part of a lent slice.
+// A part of a lent slice: a reference to a slice is in memory, too, its place and its length.
 #[repr(C)]
 pub struct Part {
     pub start: *const u8,

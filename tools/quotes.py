@@ -22,7 +22,7 @@ def quoted(page):
 
 def main():
     places = ("crates/*/specs/**/*.antt", "crates/*/src/**/*.rt")
-    files = [read(path) for place in places for path in glob.glob(place, root_dir=ROOT, recursive=True)]
+    files = [read(path) for place in places for path in glob.glob(os.path.join(ROOT, place), recursive=True)]
     quotes = quoted(read("docs/READING.md"))
     missing = [quote for quote in quotes if not any("\n%s\n" % quote in text for text in files)]
     for quote in missing:

@@ -7,13 +7,8 @@ use native.Mathlib.Omega.{arith}
 use Rattle.tables.specs.declared.Counts.{Counts}
 use Rattle.tables.specs.Sheet.{Lent, entities, objectEntity, sheetOf, sheetIn}
 use Rattle.theory.specs.Flow.{Flow, here, step}
-use Rattle.theory.proofs.Flows.{Has, Inside}
-use Rattle.access.specs.Channel.{read, write, Grants, May, ChannelOf, reads, writes, Channel}
-
--- the two entities are a subject and an object
-abbrev pub TwoSided : Counts → ℕ → ℕ → Type 0
-TwoSided c x y =
-    ((x < c .subjects) × (c .subjects ≤ y) × (y < entities c)) ⊎ ((y < c .subjects) × (c .subjects ≤ x) × (x < entities c))
+use Rattle.access.specs.Channel.{TwoSided, read, write, Grants, May, ChannelOf, reads, writes, Channel}
+use Rattle.theory.specs.Laws.{Contains, Inside}
 
 module _ {c : Counts} {assigned : ℕ → ℕ → Type 0} {held : ℕ → ℕ → ℕ → Type 0} where
   -- channels join subjects and objects only
@@ -61,7 +56,7 @@ module _ {c : Counts} {assigned assigned′ : ℕ → ℕ → Type 0} {held held
         grants = record { role = g .role; has-role = more _ _ hs (g .role) (g .has-role); holds = holds-more _ (g .role) (g .holds) };
       }
 
-  pub channel-more : HoldsMore c held held′ read → HoldsMore c held held′ write → Has (ChannelOf c assigned′ held′) (ChannelOf c assigned held)
+  pub channel-more : HoldsMore c held held′ read → HoldsMore c held held′ write → Contains (ChannelOf c assigned′ held′) (ChannelOf c assigned held)
   channel-more reads-more writes-more x y (reads o l e h m) = reads o l e h (may-more (λ r k. reads-more r o k l) h m)
   channel-more reads-more writes-more x y (writes o l h e m) = writes o l h e (may-more (λ r k. writes-more r o k l) h m)
 
@@ -85,20 +80,22 @@ module _ {c : Counts} {assigned assigned′ : ℕ → ℕ → Type 0} {held held
       go (yes same) = inr (rw same at e)
       go (no other) = inl (writes o l h e (may-more (λ r k. writes-more r o k l other) h m))
 
--- a role that no subject has makes no channel: whatever it holds instead, each channel stays; so, taken both ways, the channels are the same
-module _ {c : Counts} {assigned : ℕ → ℕ → Type 0} {held held′ : ℕ → ℕ → ℕ → Type 0} (r : ℕ) (nobody : (s : ℕ) → s < c .subjects → assigned s r → ⊥) (others : (q o m : ℕ) → (q ≡ r → ⊥) → held q o m → held′ q o m) where
-  may-without : {wanted s o : ℕ} → s < c .subjects → May c assigned held wanted s o → May c assigned held′ wanted s o
-  may-without {wanted} {s} {o} hs m =
+-- "A role assigned to nobody makes no channel": whatever it holds instead, each channel stays; so, taken both ways, the channels are the
+-- same. Roles and objects are below their counts, since further on a byte of the table belongs to another role.
+module _ {c : Counts} {assigned : ℕ → ℕ → Type 0} {held held′ : ℕ → ℕ → ℕ → Type 0} (r : ℕ) (nobody : (s : ℕ) → s < c .subjects → assigned s r → ⊥)
+    (others : (q o m : ℕ) → q < c .roles → o < c .objects → q ≢ r → held q o m → held′ q o m) where
+  may-without : {wanted s o : ℕ} → s < c .subjects → o < c .objects → May c assigned held wanted s o → May c assigned held′ wanted s o
+  may-without {wanted} {s} {o} hs ho m =
       let g = m .grants in
-      let other : m .by ≡ r → ⊥ = λ e. nobody s hs (rw e at (g .has-role)) in
+      let other : m .by ≢ r = λ e. nobody s hs (rw e at (g .has-role)) in
       record {
         by = m .by;
-        grants = record { role = g .role; has-role = g .has-role; holds = others (m .by) o wanted other (g .holds) };
+        grants = record { role = g .role; has-role = g .has-role; holds = others (m .by) o wanted (g .role) ho other (g .holds) };
       }
 
-  pub channel-without : Has (ChannelOf c assigned held′) (ChannelOf c assigned held)
-  channel-without x y (reads o l e h m) = reads o l e h (may-without h m)
-  channel-without x y (writes o l h e m) = writes o l h e (may-without h m)
+  pub channel-without : Contains (ChannelOf c assigned held′) (ChannelOf c assigned held)
+  channel-without x y (reads o l e h m) = reads o l e h (may-without h l m)
+  channel-without x y (writes o l h e m) = writes o l h e (may-without h l m)
 
 -- the channels of a sheet join entities below N only
 pub sheet-inside : (l : Lent) → Inside (entities (l .counts)) (Channel (sheetIn l))

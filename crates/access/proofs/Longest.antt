@@ -11,11 +11,11 @@ use lib.ListN.{length}
 use Rattle.tables.specs.declared.Counts.{Counts}
 use Rattle.answers.specs.Sizes.{mostSubjects}
 use Rattle.tables.specs.Sheet.{sheet, Sheet, counts}
-use Rattle.theory.specs.Chain.{Chain, alone, link, Best}
-use Rattle.theory.proofs.Distinct.{Absent, nowhere, further, Distinct, empty, more, AllBelow, none, next, distinct-fits}
+use Rattle.theory.specs.Chain.{Chain, alone, link, Best, Absent, nowhere, further, Distinct, empty, more}
+use Rattle.theory.proofs.Distinct.{AllBelow, none, next, distinct-fits}
 use Rattle.theory.proofs.Chains.{best-alone, shortest-distinct}
-use Rattle.access.specs.Channel.{ChannelOf, Channel}
-use Rattle.access.proofs.Channels.{TwoSided, two-sided}
+use Rattle.access.specs.Channel.{ChannelOf, Channel, TwoSided}
+use Rattle.access.proofs.Channels.{two-sided}
 
 -- ---- the numbers of a list that are below n
 module _ (n : ℕ) where

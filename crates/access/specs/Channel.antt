@@ -1,10 +1,11 @@
 -- Channels: what a subject may do with an object, and between which entities data can go in one step. Stated over what a role holds,
 -- `held r o m`: role r holds mode m on object o.
-use Prim.Native.Nat.{ℕ, _<_}
+use Prim.Native.Nat.{ℕ, _≤_, _<_}
 use mathlib.Core.Path.{_≡_}
 use mathlib.Core.Logic.{_⊎_}
 use Rattle.tables.specs.declared.Counts.{Counts}
-use Rattle.tables.specs.Sheet.{Sheet, objectEntity, assignedByte, modeByte}
+use Rattle.tables.specs.Sheet.{Sheet, entities, objectEntity, assignedByte, modeByte}
+use Rattle.theory.specs.Flow.{Flow}
 
 -- "(1 read, 2 write, 3 both)": read
 abbrev pub read : ℕ
@@ -47,3 +48,12 @@ module _ (c : Counts) (assigned : ℕ → ℕ → Type 0) (held : ℕ → ℕ �
 -- the channels of a sheet
 abbrev pub Channel : Sheet → ℕ → ℕ → Type 0
 Channel t = ChannelOf (t .counts) (Assigned t) (Plain t)
+
+-- "Flow is the reflexive, transitive closure of channel", of a sheet's channels
+abbrev pub SheetFlow : Sheet → ℕ → ℕ → Type 0
+SheetFlow t = Flow (Channel t)
+
+-- "No other pairs": of two entities one is a subject and one is an object
+abbrev pub TwoSided : Counts → ℕ → ℕ → Type 0
+TwoSided c x y =
+    ((x < c .subjects) × (c .subjects ≤ y) × (y < entities c)) ⊎ ((y < c .subjects) × (c .subjects ≤ x) × (x < entities c))

@@ -1,5 +1,6 @@
 -- Laws for the proofs of functions and contracts.
 pub mod Below
+pub mod Unjudged
 pub mod Joined
 pub mod Products
 pub mod Marks

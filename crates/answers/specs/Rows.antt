@@ -35,6 +35,11 @@ pub record Bytes (n : ℕ) (table : List ℕ) (x y : ℕ) : Type 0 where
 unfoldable pub over : List ℕ → List ℕ → List ℕ
 over used buffer = used ++ drop (length used) buffer
 
+-- "Bytes past the used part are neither judged nor altered": two buffers of one length that differ past their first n bytes at most
+pub record SameUsed (n : ℕ) (buffer buffer′ : List ℕ) : Type 0 where
+  pub same-length : length buffer ≡ length buffer′
+  pub same-bytes : (k : ℕ) → k < n → getD buffer k 0 ≡ getD buffer′ k 0
+
 -- a table of n rows that marks R, in front of what the buffer held behind it
 pub record Filled (n : ℕ) (R : ℕ → ℕ → Type 0) (before after : List ℕ) : Type 0 where
   pub table : List ℕ

@@ -6,10 +6,10 @@ use native.Mathlib.Decide.{ℕ-discrete}
 use native.Mathlib.Omega.{arith}
 use lib.ListN.{length}
 use Rattle.theory.specs.Chain.{Chain, alone, link, NotAfter, equal, Best}
-use Rattle.theory.proofs.Flows.{Inside}
 use Rattle.theory.proofs.Distinct.{distinct-fits}
 use Rattle.theory.proofs.Chains.{chain-long, chain-less, chain-inside, shortest-distinct}
 use Rattle.chains.specs.Distance.{Distance}
+use Rattle.theory.specs.Laws.{Inside}
 
 module _ {ch : ℕ → ℕ → Type 0} where
   -- only y is at 0

@@ -5,10 +5,11 @@ use mathlib.Core.List.{List, [], _∷_}
 use native.Mathlib.Omega.{arith}
 use Rattle.answers.specs.Rows.{over}
 use Rattle.theory.specs.Flow.{Flow}
-use Rattle.theory.proofs.Flows.{Has, flow-closed}
+use Rattle.theory.proofs.Flows.{flow-closed}
 use Rattle.theory.proofs.Chains.{best-alone}
 use Rattle.chains.specs.Shown.{ShownChain, shown, missing}
 use Rattle.chains.proofs.Relations.{chain-agrees, one-shown}
+use Rattle.theory.specs.Laws.{Contains}
 
 data Hop : ℕ → ℕ → Type 0 where
   hop : Hop 0 1
@@ -16,10 +17,10 @@ data Hop : ℕ → ℕ → Type 0 where
 abbrev Pair : ℕ → ℕ → Type 0
 Pair a b = (a ≡ 0) × (b ≡ 1)
 
-to : Has Pair Hop
+to : Contains Pair Hop
 to _ _ hop = (refl, refl)
 
-back : Has Hop Pair
+back : Contains Hop Pair
 back a b (p, q) = rw p (rw q hop)
 
 -- from 1 to 1 it is 1 alone, and the rest of the buffer stays

@@ -10,11 +10,12 @@ use Rattle.answers.specs.Sizes.{mostEntities}
 use Rattle.answers.specs.Rows.{count}
 use Rattle.theory.specs.Flow.{Flow}
 use Rattle.theory.specs.Chain.{Chain, alone, link}
-use Rattle.theory.proofs.Flows.{Inside, flow-closed-back}
+use Rattle.theory.proofs.Flows.{flow-closed-back}
 use Rattle.theory.proofs.Chains.{Goes, ends, on, chain-goes, chain-long}
 use Rattle.chains.specs.Distance.{far, Distance, Moved, kept, moved, Near, Round, Final, reaches, never, Distances}
 use Rattle.chains.proofs.AllBut.{allBut, but-other, but-here, but-count}
 use Rattle.chains.proofs.Distances.{distance-none, distance-below}
+use Rattle.theory.specs.Laws.{Inside}
 
 -- the byte d of x is right up to the distance r; `far` stands for more
 pub data Known (ch : ℕ → ℕ → Type 0) (y r x d : ℕ) : Type 0 where

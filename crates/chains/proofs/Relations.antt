@@ -5,10 +5,11 @@ use Rattle.answers.specs.Rows.{over}
 use Rattle.theory.proofs.Chains.{chain-flow, one-best, best-agrees}
 use lib.ListN.{length}
 use mathlib.Core.Path.{_≡_, sym, ap, _∙_}
-use Rattle.theory.proofs.Flows.{Has, flow-more}
+use Rattle.theory.proofs.Flows.{flow-more}
 use Rattle.chains.specs.Shown.{ShownChain, shown, missing}
+use Rattle.theory.specs.Laws.{Contains}
 
-module _ {ch ch′ : ℕ → ℕ → Type 0} (to : Has ch′ ch) (back : Has ch ch′) where
+module _ {ch ch′ : ℕ → ℕ → Type 0} (to : Contains ch′ ch) (back : Contains ch ch′) where
   pub chain-agrees : {x y count : ℕ} {before after : List ℕ} → ShownChain ch x y before after count → ShownChain ch′ x y before after count
   chain-agrees (shown l b e w) = shown l (best-agrees to back b) e w
   chain-agrees {x} {y} (missing no′ e w) = missing (λ f. no′ (flow-more back x y f)) e w

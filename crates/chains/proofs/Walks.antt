@@ -10,11 +10,11 @@ use lib.Seq.{drop-cons, set-at}
 use Rattle.answers.specs.Rows.{over}
 use Rattle.theory.specs.Flow.{Flow}
 use Rattle.theory.specs.Chain.{Best}
-use Rattle.theory.proofs.Flows.{Inside}
 use Rattle.theory.proofs.Chains.{Goes, ends, on, chain-goes, chain-flow, best-alone}
 use Rattle.chains.specs.Shown.{ShownChain, shown}
 use Rattle.chains.specs.Distance.{far, Smallest, Distance, Final, reaches, never, Distances}
 use Rattle.chains.proofs.Distances.{one-long, one-distance, one-nearer, best-link}
+use Rattle.theory.specs.Laws.{Inside}
 
 -- ---- what the bytes say
 module _ {ch : ℕ → ℕ → Type 0} {n y : ℕ} {dist : List ℕ} (inner : Inside n ch) (t : Distances ch n y dist) where

@@ -19,7 +19,7 @@ use Rattle.access.specs.Channel.{Channel}
 use Rattle.flow.specs.Fill.{Fills, FlowFilled}
 use Rattle.effects.specs.Effects.{Affects}
 use Rattle.flow.proofs.Filled.{filled-agrees, tables-effect}
-use Rattle.change.specs.Change.{withAssignment, withPermission, AssignmentAdds, AssignmentTakes, PermissionAdds, PermissionTakes, rangeRefusals, setAssignmentRefusals, setPermissionRefusals, SetsAssignment, SetsPermission, Between}
+use Rattle.change.specs.Change.{withAssignment, withPermission, AssignmentAdds, AssignmentTakes, PermissionAdds, PermissionTakes, rangeRefusals, setAssignmentRefusals, setPermissionRefusals, SetsAssignment, SetsPermission, Between, changeRefusals}
 use Rattle.change.proofs.Changes.{assignment-adds, assignment-takes, permission-adds, permission-takes, sheet-with-assignment, sheet-with-permission}
 use Rattle.change.proofs.Turning.{assignment-never-both, permission-never-both}
 use Rattle.change.proofs.Placed.{in-table, column-below}
@@ -48,7 +48,7 @@ between l a p {before} {after} b hx =
 -- ---- an accepted change of an assignment
 module _ (l : Lent) (s r value : ℕ) (assignment : List ℕ) (call : SetsAssignment l s r value (0, assignment)) where
   pub changed-assignment : sheetIn (lent (l .counts) assignment (l .permission)) ≡ withAssignment (sheetIn l) s r value
-  unfolding setAssignmentRefusals rangeRefusals
+  unfolding setAssignmentRefusals changeRefusals rangeRefusals
   changed-assignment =
       let none = answered (λ r. r .0) (λ _. refl) call refl in
       let own = passed-then (sheetRefusals noOther noList l) _ (sheet-numbered noOther noList l) none .1 in
@@ -71,7 +71,7 @@ module _ (l : Lent) (s r value : ℕ) (assignment : List ℕ) (call : SetsAssign
 -- ---- an accepted change of a permission
 module _ (l : Lent) (r o mode : ℕ) (permission : List ℕ) (call : SetsPermission l r o mode (0, permission)) where
   unrefused : firstRefusal (rangeRefusals (l .counts .roles) (l .counts .objects) 3 r o mode) ≡ 0
-  unfolding setPermissionRefusals rangeRefusals
+  unfolding setPermissionRefusals changeRefusals rangeRefusals
   unrefused = passed-then (sheetRefusals noOther noList l) _ (sheet-numbered noOther noList l) (answered (λ r. r .0) (λ _. refl) call refl) .1
 
   pub changed-permission : sheetIn (lent (l .counts) (l .assignment) permission) ≡ withPermission (sheetIn l) r o mode

@@ -8,10 +8,10 @@ use lib.ListN.{length, getD, set, take}
 use lib.Seq.{set-out, getD-set-same, getD-set-other, take-set-lt}
 use Rattle.tables.specs.declared.Counts.{Counts}
 use Rattle.tables.specs.Sheet.{sheet, lent, Sheet, sheetIn, sheetOf, assignedByte, modeByte}
-use Rattle.theory.proofs.Flows.{Has}
-use Rattle.access.specs.Channel.{read, write, Has as Mode, Channel}
+use Rattle.access.specs.Channel.{read, write, Has, Channel}
 use Rattle.access.proofs.Channels.{channel-more}
 use Rattle.change.specs.Change.{assignmentPlace, permissionPlace, withAssignment, withPermission, AssignmentAdds, PermissionAdds, AssignmentTakes, PermissionTakes}
+use Rattle.theory.specs.Laws.{Contains}
 
 -- what held of each byte holds after one is set, if the new one has it of the old
 pub set-keeps : (P : ℕ → Type 0) (l : List ℕ) (i v : ℕ) → (P (getD l i 0) → P v) → (k : ℕ) → P (getD l k 0) → P (getD (set l i v) k 0)
@@ -32,30 +32,30 @@ set-kept P l i v old k p = go (ℕ-discrete k i) (decLt i (length l))
     go (no e) d = rw (getD-set-other l i k v 0 e) at p
 
 module _ (t : Sheet) (s r value : ℕ) where
-  pub assignment-adds : AssignmentAdds (assignedByte t s r) value → Has (Channel (withAssignment t s r value)) (Channel t)
+  pub assignment-adds : AssignmentAdds (assignedByte t s r) value → Contains (Channel (withAssignment t s r value)) (Channel t)
   unfolding withAssignment
   assignment-adds adds =
       channel-more (λ a b _ _. set-keeps (λ byte. byte ≡ 1) (t .assignment) _ value adds (a * t .counts .roles + b)) (λ _ _ _ _ h. h) (λ _ _ _ _ h. h)
 
-  pub assignment-takes : AssignmentTakes (assignedByte t s r) value → Has (Channel t) (Channel (withAssignment t s r value))
+  pub assignment-takes : AssignmentTakes (assignedByte t s r) value → Contains (Channel t) (Channel (withAssignment t s r value))
   unfolding withAssignment
   assignment-takes takes =
       channel-more (λ a b _ _. set-kept (λ byte. byte ≡ 1) (t .assignment) _ value takes (a * t .counts .roles + b)) (λ _ _ _ _ h. h) (λ _ _ _ _ h. h)
 
 module _ (t : Sheet) (r o mode : ℕ) where
-  pub permission-adds : PermissionAdds (modeByte t r o) mode → Has (Channel (withPermission t r o mode)) (Channel t)
+  pub permission-adds : PermissionAdds (modeByte t r o) mode → Contains (Channel (withPermission t r o mode)) (Channel t)
   unfolding withPermission
   permission-adds adds =
       channel-more (λ _ _ _ _ h. h)
-      (λ a b _ _. set-keeps (λ byte. Mode byte read) (t .permission) _ mode (adds .reading) (a * t .counts .objects + b))
-      (λ a b _ _. set-keeps (λ byte. Mode byte write) (t .permission) _ mode (adds .writing) (a * t .counts .objects + b))
+      (λ a b _ _. set-keeps (λ byte. Has byte read) (t .permission) _ mode (adds .reading) (a * t .counts .objects + b))
+      (λ a b _ _. set-keeps (λ byte. Has byte write) (t .permission) _ mode (adds .writing) (a * t .counts .objects + b))
 
-  pub permission-takes : PermissionTakes (modeByte t r o) mode → Has (Channel t) (Channel (withPermission t r o mode))
+  pub permission-takes : PermissionTakes (modeByte t r o) mode → Contains (Channel t) (Channel (withPermission t r o mode))
   unfolding withPermission
   permission-takes takes =
       channel-more (λ _ _ _ _ h. h)
-      (λ a b _ _. set-kept (λ byte. Mode byte read) (t .permission) _ mode (takes .reading) (a * t .counts .objects + b))
-      (λ a b _ _. set-kept (λ byte. Mode byte write) (t .permission) _ mode (takes .writing) (a * t .counts .objects + b))
+      (λ a b _ _. set-kept (λ byte. Has byte read) (t .permission) _ mode (takes .reading) (a * t .counts .objects + b))
+      (λ a b _ _. set-kept (λ byte. Has byte write) (t .permission) _ mode (takes .writing) (a * t .counts .objects + b))
 
 -- ---- the sheet in changed tables is the changed sheet
 module _ (c : Counts) (assignment permission : List ℕ) where

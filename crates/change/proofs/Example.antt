@@ -9,10 +9,10 @@ use Rattle.answers.specs.Call.{firstRefusal, _then_}
 use Rattle.answers.specs.Rows.{anyBelow}
 use Rattle.tables.specs.Sheet.{sheet, Lent, lent, Sheet, counts}
 use Rattle.tables.specs.Refusals.{sizeRefusals, usedRefusals, sheetRefusals}
-use Rattle.theory.proofs.Flows.{Has}
-use Rattle.access.specs.Channel.{Channel}
-use Rattle.change.specs.Change.{withAssignment, withPermission, PermissionAdds, rangeRefusals, setAssignmentRefusals, setPermissionRefusals}
+use Rattle.access.specs.Channel.{Has, Channel}
+use Rattle.change.specs.Change.{withAssignment, withPermission, PermissionAdds, rangeRefusals, setAssignmentRefusals, setPermissionRefusals, changeRefusals}
 use Rattle.change.proofs.Changes.{permission-adds, assignment-takes}
+use Rattle.theory.specs.Laws.{Contains}
 
 abbrev reader : Sheet
 reader = sheet (counts 1 2 1) (1 ∷ []) (1 ∷ 0 ∷ []) []
@@ -29,15 +29,15 @@ three-adds = record { reading = λ _. inr refl; writing = λ _. inr refl }
 two-does-not-add : PermissionAdds 1 2 → ⊥
 two-does-not-add p = go (p .reading (inl refl))
   where
-    go : Rattle.access.specs.Channel.Has 2 1 → ⊥
+    go : Has 2 1 → ⊥
     go (inl e) = omega arith
     go (inr e) = omega arith
 
 -- the laws at it
-more-channels : Has (Channel (withPermission reader 0 0 3)) (Channel reader)
+more-channels : Contains (Channel (withPermission reader 0 0 3)) (Channel reader)
 more-channels = permission-adds reader 0 0 3 three-adds
 
-fewer-channels : Has (Channel reader) (Channel (withAssignment reader 0 0 0))
+fewer-channels : Contains (Channel reader) (Channel (withAssignment reader 0 0 0))
 fewer-channels = assignment-takes reader 0 0 0 (λ e. absurd (omega arith))
 
 -- ---- 6 comes last: the lent tables, with the assignment byte b
@@ -55,7 +55,7 @@ record SixLast : Type 0 where
   mode-3 : firstRefusal (setPermissionRefusals (tables 1) 0 1 3) ≡ 0
 
 six-last : SixLast
-unfolding firstRefusal _then_ anyBelow sheetRefusals sizeRefusals usedRefusals rangeRefusals setAssignmentRefusals setPermissionRefusals tables
+unfolding firstRefusal _then_ anyBelow sheetRefusals sizeRefusals usedRefusals rangeRefusals setAssignmentRefusals setPermissionRefusals changeRefusals tables
 six-last =
     record {
       subject-outside = refl;

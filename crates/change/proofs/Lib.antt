@@ -5,3 +5,4 @@ pub mod Placed
 pub mod Between
 pub mod Determined
 pub mod Example
+pub mod Instances

@@ -11,8 +11,7 @@ use Rattle.tables.specs.Refusals.{noOther, noList, sheetRefusals}
 use Rattle.answers.proofs.Calls.{passed, passed-then, refuse, accept}
 use Rattle.tables.proofs.Accepted.{sheet-numbered, tables-passed}
 use Rattle.answers.proofs.Products.{place-below, product-within}
-use Rattle.change.specs.Change.{rangeRefusals, setAssignmentRefusals, setPermissionRefusals, SetsAssignment, SetsPermission, assignmentPlace, permissionPlace}
-use Rattle.change.specs.Inner.{changeRefusals}
+use Rattle.change.specs.Change.{rangeRefusals, setAssignmentRefusals, setPermissionRefusals, SetsAssignment, SetsPermission, assignmentPlace, permissionPlace, changeRefusals}
 
 -- a byte that passed 6 lies in a column of the table
 pub column-below : (rows columns most i j value : ℕ) → firstRefusal (rangeRefusals rows columns most i j value) ≡ 0 → j < columns
@@ -36,7 +35,7 @@ module _ (l : Lent) (i j value : ℕ) where
   assignment-inside e =
       let p = passed-then (sheetRefusals noOther noList l) _ (sheet-numbered noOther noList l) e in
       let sized = tables-passed noOther noList l (p .0) .sized in
-      in-table _ _ 1 i j value 48 48 _ (sized .subjects) (sized .roles) (sized .assignment) (p .1)
+      in-table _ _ 1 i j value 48 48 _ (sized .counts-fit .subjects) (sized .counts-fit .roles) (sized .assignment) (p .1)
 
   pub permission-inside : firstRefusal (changeRefusals l (l .counts .roles) (l .counts .objects) 3 i j value) ≡ 0 →
       permissionPlace (l .counts) i j < length (l .permission)
@@ -44,7 +43,7 @@ module _ (l : Lent) (i j value : ℕ) where
   permission-inside e =
       let p = passed-then (sheetRefusals noOther noList l) _ (sheet-numbered noOther noList l) e in
       let sized = tables-passed noOther noList l (p .0) .sized in
-      in-table _ _ 3 i j value 48 64 _ (sized .roles) (sized .objects) (sized .permission) (p .1)
+      in-table _ _ 3 i j value 48 64 _ (sized .counts-fit .roles) (sized .counts-fit .objects) (sized .permission) (p .1)
 
 -- ---- both calls, return by return: their lists are those of the function that answers for them
 module _ (l : Lent) (i j value : ℕ) where

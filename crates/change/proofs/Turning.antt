@@ -11,7 +11,7 @@ use Rattle.tables.specs.Sheet.{Sheet, objectEntity, assignedByte, modeByte}
 use Rattle.theory.specs.Flow.{Flow}
 use Rattle.theory.specs.Effect.{Effect}
 use Rattle.theory.proofs.Effects.{Turned, adding-loses-nothing, taking-gains-nothing, turning-never-both, turning-back-never-both}
-use Rattle.access.specs.Channel.{read, write, Has as Mode, Channel}
+use Rattle.access.specs.Channel.{read, write, Has, Channel}
 use Rattle.access.proofs.Channels.{channel-but-from, channel-but-to}
 use Rattle.access.proofs.Decided.{has-decided}
 use Rattle.change.specs.Change.{withAssignment, withPermission}
@@ -34,7 +34,7 @@ module _ (t : Sheet) (r o mode : ℕ) (inside : o < t .counts .objects) where
   unfolding withPermission
   kept a b h other = getD-set-other (t .permission) _ _ mode 0 (other-place a r (t .counts .objects) h inside other)
 
-  turns : (Mode mode read → Mode (modeByte t r o) read) → (Mode (modeByte t r o) write → Mode mode write) →
+  turns : (Has mode read → Has (modeByte t r o) read) → (Has (modeByte t r o) write → Has mode write) →
       Turned (objectEntity (t .counts) o) (Channel t) (Channel (withPermission t r o mode))
   unfolding withPermission
   turns takes-reading adds-writing =
@@ -42,14 +42,14 @@ module _ (t : Sheet) (r o mode : ℕ) (inside : o < t .counts .objects) where
         gone =
             channel-but-from (λ _ _ _ _ h. h) o
             (λ a b _ h other m. rw (kept a b h other) m)
-            (λ a b _ _. set-keeps (λ byte. Mode byte write) (t .permission) _ mode adds-writing (a * t .counts .objects + b));
+            (λ a b _ _. set-keeps (λ byte. Has byte write) (t .permission) _ mode adds-writing (a * t .counts .objects + b));
         came =
             channel-but-to (λ _ _ _ _ h. h) o
-            (λ a b _ _. set-kept (λ byte. Mode byte read) (t .permission) _ mode takes-reading (a * t .counts .objects + b))
+            (λ a b _ _. set-kept (λ byte. Has byte read) (t .permission) _ mode takes-reading (a * t .counts .objects + b))
             (λ a b _ h other m. rw (kept a b h other) at m);
       }
 
-  turns-back : (Mode (modeByte t r o) read → Mode mode read) → (Mode mode write → Mode (modeByte t r o) write) →
+  turns-back : (Has (modeByte t r o) read → Has mode read) → (Has mode write → Has (modeByte t r o) write) →
       Turned (objectEntity (t .counts) o) (Channel (withPermission t r o mode)) (Channel t)
   unfolding withPermission
   turns-back adds-reading takes-writing =
@@ -57,10 +57,10 @@ module _ (t : Sheet) (r o mode : ℕ) (inside : o < t .counts .objects) where
         gone =
             channel-but-from (λ _ _ _ _ h. h) o
             (λ a b _ h other m. rw (kept a b h other) at m)
-            (λ a b _ _. set-kept (λ byte. Mode byte write) (t .permission) _ mode takes-writing (a * t .counts .objects + b));
+            (λ a b _ _. set-kept (λ byte. Has byte write) (t .permission) _ mode takes-writing (a * t .counts .objects + b));
         came =
             channel-but-to (λ _ _ _ _ h. h) o
-            (λ a b _ _. set-keeps (λ byte. Mode byte read) (t .permission) _ mode adds-reading (a * t .counts .objects + b))
+            (λ a b _ _. set-keeps (λ byte. Has byte read) (t .permission) _ mode adds-reading (a * t .counts .objects + b))
             (λ a b _ h other m. rw (kept a b h other) m);
       }
 
@@ -68,7 +68,7 @@ module _ (t : Sheet) (r o mode : ℕ) (inside : o < t .counts .objects) where
   pub permission-never-both : {n x e : ℕ} → x < n → Effect n (Flow (Channel t)) (Flow (Channel (withPermission t r o mode))) x e → e ≢ 3
   permission-never-both {n} {x} {e} hx change = go (has-decided (modeByte t r o) read) (has-decided (modeByte t r o) write)
     where
-      go : Dec (Mode (modeByte t r o) read) → Dec (Mode (modeByte t r o) write) → e ≢ 3
+      go : Dec (Has (modeByte t r o) read) → Dec (Has (modeByte t r o) write) → e ≢ 3
       go (yes had-read) (yes had-write) =
           not-3 (inr (taking-gains-nothing hx change (permission-takes t r o mode (record { reading = λ _. had-read; writing = λ _. had-write }))))
       go (yes had-read) (no no-write) = turning-never-both change (turns (λ _. had-read) (λ m. absurd (no-write m)))

@@ -52,15 +52,17 @@ PermissionTakes old new = PermissionAdds new old
 unfoldable pub rangeRefusals : (rows columns most i j value : ℕ) → List Refusal
 rangeRefusals rows columns most i j value = (6 if leb rows i) ∷ (6 if leb columns j) ∷ (6 if ltb most value) ∷ []
 
--- "A single change puts 6 last"; "assignment, S x R bytes, 0 or 1"
+-- "A single change puts 6 last"
+unfoldable pub changeRefusals : Lent → (rows columns most i j value : ℕ) → List Refusal
+changeRefusals l rows columns most i j value = sheetRefusals noOther noList l then rangeRefusals rows columns most i j value
+
+-- "assignment, S x R bytes, 0 or 1"
 unfoldable pub setAssignmentRefusals : Lent → ℕ → ℕ → ℕ → List Refusal
-setAssignmentRefusals l s r value =
-    sheetRefusals noOther noList l then rangeRefusals (l .counts .subjects) (l .counts .roles) 1 s r value
+setAssignmentRefusals l s r value = changeRefusals l (l .counts .subjects) (l .counts .roles) 1 s r value
 
 -- "permission, R x O bytes, 0 to 3"; a mode of 0 takes away
 unfoldable pub setPermissionRefusals : Lent → ℕ → ℕ → ℕ → List Refusal
-setPermissionRefusals l r o mode =
-    sheetRefusals noOther noList l then rangeRefusals (l .counts .roles) (l .counts .objects) 3 r o mode
+setPermissionRefusals l r o mode = changeRefusals l (l .counts .roles) (l .counts .objects) 3 r o mode
 
 -- the contract of `set_assignment`: the answer, and the assignment table afterwards
 abbrev pub SetsAssignment : Lent → ℕ → ℕ → ℕ → ℕ × List ℕ → Type 0

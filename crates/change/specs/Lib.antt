@@ -1,3 +1,2 @@
 -- One change at a time.
 pub mod Change
-pub mod Inner

@@ -5,8 +5,7 @@ ghost use Prim.Native.Nat.{_+_, _*_, _<_};
 ghost use lib.ListN.{length, set};
 ghost use Rattle.answers.specs.Call.{firstRefusal};
 ghost use Rattle.tables.specs.Sheet.{lent};
-ghost use Rattle.change.specs.Change.{rangeRefusals, SetsAssignment, SetsPermission};
-ghost use Rattle.change.specs.Inner.{changeRefusals};
+ghost use Rattle.change.specs.Change.{rangeRefusals, SetsAssignment, SetsPermission, changeRefusals};
 
 // 6 of a byte to be set in row `i` at place `j` of a table, 0 for none.
 fn range_refusal(rows: usize, columns: usize, most: u8, i: usize, j: usize, value: u8) -> u8

@@ -14,12 +14,12 @@ use Rattle.channels.specs.Inner.{OnList, ModeOn, Askable}
 module _ {c : Counts} {lists used permission : List ℕ} (a : Askable c lists used permission) (s o : ℕ) (hs : s < c .subjects) (ho : o < c .objects) (k : ℕ) (hk : k < getD used s 0) where
   -- the role at place k is read within the lists, and its mode within the permissions
   pub place-within : s * mostRoles + k < length lists
-  place-within = omega (arith, a .few s hs, a .subjects, a .listed)
+  place-within = omega (arith, a .few s hs, a .counts-fit .subjects, a .listed)
 
   pub mode-within : at lists mostRoles s k * c .objects + o < length permission
   mode-within =
       place-below (at lists mostRoles s k) o (c .roles) (c .objects) (length permission) (a .below s k hs hk) ho
-      (product-within (c .roles) (c .objects) 48 64 (length permission) (a .roles) (a .objects) (a .permitted))
+      (product-within (c .roles) (c .objects) 48 64 (length permission) (a .counts-fit .roles) (a .counts-fit .objects) (a .permitted))
 
   -- that role permits it
   pub permits : (wanted : ℕ) → Has (at permission (c .objects) (at lists mostRoles s k) o) wanted → May c (OnList lists used) (ModeOn c permission) wanted s o

@@ -8,12 +8,12 @@ use lib.Seq.{getD-take}
 use Rattle.answers.specs.Sizes.{mostSubjects, mostRoles}
 use Rattle.answers.specs.Rows.{at}
 use Rattle.tables.specs.Sheet.{Lent, sheetOf, sheetIn}
-use Rattle.tables.specs.Inner.{Sized}
 use Rattle.answers.proofs.Products.{place-below}
-use Rattle.theory.proofs.Flows.{Has}
 use Rattle.access.specs.Channel.{read, write, Assigned, Plain, Channel}
 use Rattle.channels.specs.Inner.{Lists, OnList, ModeOn, ListChannel, Askable}
 use Rattle.access.proofs.Channels.{channel-more}
+use Rattle.theory.specs.Laws.{Contains}
+use Rattle.tables.specs.Refusals.{Sized}
 
 -- a place of the used part of a table holds what the lent table holds there
 at-used : (m n i j : ℕ) (table : List ℕ) → i < m → j < n → at (take (m * n) table) n i j ≡ at table n i j
@@ -42,11 +42,11 @@ module _ (l : Lent) {lists used : List ℕ} (gathered : Lists (l .counts .roles)
       let (k, h, e) = gathered .each s hs .all r hr (rw (at-used (l .counts .subjects) (l .counts .roles) s r (l .assignment) hs hr) at has) in
       record { place = k; counted = h; there = e }
 
-  pub by-lists : Has (Channel (sheetIn l)) (ListChannel (l .counts) lists used (l .permission))
+  pub by-lists : Contains (Channel (sheetIn l)) (ListChannel (l .counts) lists used (l .permission))
   unfolding sheetOf
   by-lists = channel-more listed-assigned (mode-plain l read) (mode-plain l write)
 
-  pub to-lists : Has (ListChannel (l .counts) lists used (l .permission)) (Channel (sheetIn l))
+  pub to-lists : Contains (ListChannel (l .counts) lists used (l .permission)) (Channel (sheetIn l))
   unfolding sheetOf
   to-lists = channel-more assigned-listed (plain-mode l read) (plain-mode l write)
 
@@ -54,12 +54,10 @@ module _ (l : Lent) {lists used : List ℕ} (gathered : Lists (l .counts .roles)
   pub askable : Sized l → mostSubjects * mostRoles ≤ length lists → mostSubjects ≤ length used → Askable (l .counts) lists used (l .permission)
   askable sized long wide =
       record {
-        subjects = sized .subjects;
-        objects = sized .objects;
-        roles = sized .roles;
+        counts-fit = sized .counts-fit;
         listed = long;
         counted = wide;
         permitted = sized .permission;
-        few = λ s h. omega (arith, gathered .each s h .few, sized .roles);
+        few = λ s h. omega (arith, gathered .each s h .few, sized .counts-fit .roles);
         below = λ s k h u. gathered .each s h .only k u .0;
       }

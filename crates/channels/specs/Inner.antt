@@ -7,9 +7,9 @@ use lib.ListN.{length, getD}
 use Rattle.tables.specs.declared.Counts.{Counts}
 use Rattle.answers.specs.Sizes.{mostSubjects, mostObjects, mostRoles, leastPermission, leastFlow}
 use Rattle.answers.specs.Rows.{at}
-use Rattle.tables.specs.Sheet.{Lent}
-use Rattle.tables.specs.Inner.{Sized}
+use Rattle.tables.specs.Sheet.{CountsFit, Lent}
 use Rattle.access.specs.Channel.{Has, ChannelOf}
+use Rattle.tables.specs.Refusals.{Sized}
 
 -- a test came out true if P holds and false if not
 pub data Answers (P : Type 0) (test : Bool) : Type 0 where
@@ -55,9 +55,7 @@ ListChannel c lists used permission = ChannelOf c (OnList lists used) (ModeOn c 
 
 -- lists that can be asked: each within its row, and each role on them with its row of permissions
 pub record Askable (c : Counts) (lists used permission : List ℕ) : Type 0 where
-  pub subjects : c .subjects ≤ mostSubjects
-  pub objects : c .objects ≤ mostObjects
-  pub roles : c .roles ≤ mostRoles
+  pub counts-fit : CountsFit c
   pub listed : mostSubjects * mostRoles ≤ length lists
   pub counted : mostSubjects ≤ length used
   pub permitted : leastPermission ≤ length permission

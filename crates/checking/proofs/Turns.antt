@@ -12,7 +12,7 @@ use Rattle.frames.specs.declared.Frame.the-variants.{Header, Assign, Permit, Se
 use Rattle.frames.specs.declared.Parsed.{Parsed}
 use Rattle.frames.specs.declared.Parsed.the-variants.{NoBytes, NoFrame, Good}
 use Rattle.frames.specs.declared.Passed.{Passed}
-use Rattle.frames.specs.declared.Verdict.the-variants.{Refused, Accepted}
+use Rattle.frames.specs.declared.CheckedText.the-variants.{Refused, Accepted}
 use Rattle.frames.specs.Check.{start, next, nextLine, lineRefusals, check, parsedLines}
 use Rattle.frames.proofs.Checks.{check-go, check-stop, not-refused, more-lines}
 use Rattle.parsing.specs.declared.Found.{Found}

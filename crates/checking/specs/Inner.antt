@@ -4,7 +4,7 @@ use mathlib.Core.Path.{_≡_}
 use mathlib.Core.List.{List, [], _∷_}
 use Rattle.frames.specs.declared.Parsed.{Parsed}
 use Rattle.frames.specs.declared.Passed.{Passed}
-use Rattle.frames.specs.declared.Verdict.the-variants.{Accepted}
+use Rattle.frames.specs.declared.CheckedText.the-variants.{Accepted}
 use Rattle.frames.specs.Check.{start, nextLine, check, parsedLines}
 use Rattle.checking.specs.declared.Checked.{Checked}
 

@@ -1,8 +1,8 @@
 // The check of a whole text.
+use frames::CheckedText;
 use frames::Frame;
 use frames::Parsed;
 use frames::Passed;
-use frames::Verdict;
 use tables::Counts;
 ghost use mathlib.Core.Path.{_≡_};
 ghost use mathlib.Core.Bool.{true};
@@ -13,7 +13,7 @@ ghost use Rattle.checking.specs.Inner.{Countable, Checks};
 
 // What a whole text comes to, and what is known of the lines that passed.
 pub struct Checked {
-    pub verdict: Verdict,
+    pub verdict: CheckedText,
     pub passed: Passed,
 }
 
@@ -82,7 +82,7 @@ pub fn check_text(text: &[u8]) -> Checked
         let n = faults::line_fault(k, parsed);
         if n != 0 {
             return Checked {
-                verdict: Verdict::Refused(n, k.lines + 1),
+                verdict: CheckedText::Refused(n, k.lines + 1),
                 passed: k,
             };
         }
@@ -91,12 +91,12 @@ pub fn check_text(text: &[u8]) -> Checked
     }
     if k.ended {
         return Checked {
-            verdict: Verdict::Accepted,
+            verdict: CheckedText::Accepted,
             passed: k,
         };
     }
     Checked {
-        verdict: Verdict::Refused(9, k.lines + 1),
+        verdict: CheckedText::Refused(9, k.lines + 1),
         passed: k,
     }
 }

@@ -16,7 +16,7 @@ use Rattle.digits.proofs.Digits.{byte-decimal, byte-letter}
 
 -- a line as it stands in the text, with its line feed if it has one
 unfoldable pub lineText : Line → List ℕ
-lineText l = l .digits ++ cond (l .ended) (feed ∷ []) []
+lineText l = l .bytes ++ cond (l .ended) (feed ∷ []) []
 
 unfoldable pub whole : List Line → List ℕ
 whole [] = []
@@ -60,7 +60,7 @@ first-line bs t = ap lines (append-assoc (toDigits bs) (feed ∷ []) t) ∙ digi
 -- ---- a text is cut at its line feeds, and nowhere else
 -- no line has a line feed inside it
 abbrev pub NoneInside : List Line → Type 0
-NoneInside ls = (k i : ℕ) → i < length (getD ls k noLine .digits) → getD (getD ls k noLine .digits) i 0 ≢ feed
+NoneInside ls = (k i : ℕ) → i < length (getD ls k noLine .bytes) → getD (getD ls k noLine .bytes) i 0 ≢ feed
 
 joined-inside : (b : ℕ) (ls : List Line) → b ≢ feed → NoneInside ls → NoneInside (joined b ls)
 unfolding joined

@@ -12,17 +12,17 @@ feed = 10
 
 -- "each ended by one line feed": what stands before it, and whether it is there; "An unfinished last line counts"
 pub record Line : Type 0 where
-  pub digits : List ℕ
+  pub bytes : List ℕ
   pub ended : Bool
 
--- a line of these digits
+-- a line of these bytes
 abbrev pub line : List ℕ → Bool → Line
-line digits ended = record { digits = digits; ended = ended }
+line bytes ended = record { bytes = bytes; ended = ended }
 
 -- one byte in front of a text's first line
 unfoldable pub joined : ℕ → List Line → List Line
 joined b [] = line (b ∷ []) false ∷ []
-joined b (l ∷ ls) = line (b ∷ l .digits) (l .ended) ∷ ls
+joined b (l ∷ ls) = line (b ∷ l .bytes) (l .ended) ∷ ls
 
 -- "Lines of lowercase hexadecimal, one frame a line": the lines of a text
 unfoldable pub lines : List ℕ → List Line
@@ -36,7 +36,7 @@ nonEmpty (a ∷ t) = true
 
 -- "2 | a line has a byte outside 0-9 and a-f, an odd count of digits, no digits, or no line feed": it has none of these
 unfoldable pub soundLine : Line → Bool
-soundLine l = l .ended && nonEmpty (l .digits) && digitPairs (l .digits)
+soundLine l = l .ended && nonEmpty (l .bytes) && digitPairs (l .bytes)
 
 -- "Each line is lowercase hexadecimal and a line feed": the line of some bytes
 unfoldable pub lineOf : List ℕ → List ℕ
@@ -45,7 +45,7 @@ lineOf bytes = toDigits bytes ++ (feed ∷ [])
 -- ---- where line number k lies: "Lines count from 1"
 -- how many bytes of the text a line has, with its line feed
 unfoldable pub lineSize : Line → ℕ
-lineSize l = length (l .digits) + cond (l .ended) 1 0
+lineSize l = length (l .bytes) + cond (l .ended) 1 0
 
 -- how many bytes lines have together
 unfoldable pub sizeOf : List Line → ℕ
@@ -64,4 +64,8 @@ noLine = line [] false
 -- "without its line feed"
 unfoldable pub lineEnd : List ℕ → ℕ → ℕ
 lineEnd t zero = length t
-lineEnd t (suc k) = lineStart t (suc k) + length (getD (lines t) k noLine .digits)
+lineEnd t (suc k) = lineStart t (suc k) + length (getD (lines t) k noLine .bytes)
+
+-- "that line .., without its line feed": the bytes of line number k + 1; none where there is no such line
+abbrev pub lineBytes : List ℕ → ℕ → List ℕ
+lineBytes t k = getD (lines t) k noLine .bytes

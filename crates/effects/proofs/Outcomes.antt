@@ -13,9 +13,8 @@ use Rattle.answers.proofs.Calls.{first-refuses, second-decides, passed-then}
 use Rattle.answers.proofs.Joined.{neither}
 use Rattle.answers.proofs.Written.{Written}
 use Rattle.theory.specs.Effect.{Effect}
-use Rattle.tables.specs.FlowTable.{byteRefusals, flowRefusals}
+use Rattle.tables.specs.FlowTable.{byteRefusals, flowRefusals, SizedFlow}
 use Rattle.effects.specs.Effects.{effectRefusals, Affected}
-use Rattle.tables.specs.Inner.{SizedFlow}
 use Rattle.effects.specs.Inner.{Affecting}
 use Rattle.tables.proofs.FlowTables.{flow-numbered, bytes-passed, flow-passed}
 

@@ -4,8 +4,8 @@ use mathlib.Core.List.{List}
 use lib.ListN.{length}
 use Rattle.answers.specs.Sizes.{leastEffect}
 use Rattle.answers.specs.Rows.{Bytes}
-use Rattle.tables.specs.Inner.{SoundFlow}
 use Rattle.labels.specs.Inner.{Asked}
+use Rattle.tables.specs.FlowTable.{SoundFlow}
 
 -- two flow tables that passed 1, 5 and 12, and entities of both
 pub record BothTables (n : ℕ) (before after : List ℕ) (x y : ℕ) : Type 0 where

@@ -11,7 +11,8 @@ use Rattle.theory.proofs.Filled.{bytes-agree}
 use Rattle.theory.proofs.Flows.{flow-reflexive, flow-transitive}
 use Rattle.theory.proofs.Orders.{agree-turned, equal-answers, label-of-flow, class-named-once, named-class}
 use Rattle.theory.proofs.Effects.{effect-agrees}
-use Rattle.flow.specs.Fill.{SheetFlow, FlowFilled}
+use Rattle.flow.specs.Fill.{FlowFilled}
+use Rattle.access.specs.Channel.{SheetFlow}
 
 pub filled-agrees : (t : Sheet) (before after : List ℕ) → FlowFilled t before after → Agree (entities (t .counts)) (SheetFlow t) (Bytes (entities (t .counts)) after)
 filled-agrees t before after f = bytes-agree f

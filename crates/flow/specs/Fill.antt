@@ -7,12 +7,7 @@ use Rattle.answers.specs.Call.{Refusal, Outcome, left}
 use Rattle.answers.specs.Rows.{Filled, shorter}
 use Rattle.tables.specs.Sheet.{Lent, Sheet, sheetIn, entities}
 use Rattle.tables.specs.Refusals.{noList, sheetRefusals}
-use Rattle.theory.specs.Flow.{Flow}
-use Rattle.access.specs.Channel.{Channel}
-
--- "Flow is the reflexive, transitive closure of channel", of a sheet's channels
-abbrev pub SheetFlow : Sheet → ℕ → ℕ → Type 0
-SheetFlow t = Flow (Channel t)
+use Rattle.access.specs.Channel.{SheetFlow}
 
 -- "Order for every call on tables: 1, 5, 11"
 unfoldable pub fillRefusals : Lent → List ℕ → List Refusal

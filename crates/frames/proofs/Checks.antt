@@ -14,7 +14,7 @@ use Rattle.frames.specs.declared.Frame.the-variants.{Header, Assign, Per
 use Rattle.frames.specs.declared.Parsed.{Parsed}
 use Rattle.frames.specs.declared.Parsed.the-variants.{NoBytes, NoFrame, Good}
 use Rattle.frames.specs.declared.Passed.{Passed}
-use Rattle.frames.specs.declared.Verdict.the-variants.{Refused, Accepted}
+use Rattle.frames.specs.declared.CheckedText.the-variants.{Refused, Accepted}
 use Rattle.frames.specs.Frame.{textOf, key}
 use Rattle.frames.specs.Check.{start, next, misplaced, oversized, outOfRange, tooMany, miscounted, frameRefusals, parsedRefusals, lineRefusals, nextLine, check, parsedLines, framesOf}
 use Rattle.frames.proofs.Frames.{FrameBytes, text-read}

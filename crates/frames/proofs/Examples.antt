@@ -11,7 +11,7 @@ use Rattle.digits.specs.Text.{codes}
 use Rattle.frames.specs.declared.Frame.{Frame}
 use Rattle.frames.specs.declared.Frame.the-variants.{Header, Assign, Permit, Separate, End}
 use Rattle.frames.specs.declared.Parsed.the-variants.{NoBytes, NoFrame, Good}
-use Rattle.frames.specs.declared.Verdict.the-variants.{Refused, Accepted}
+use Rattle.frames.specs.declared.CheckedText.the-variants.{Refused, Accepted}
 use Rattle.frames.specs.Frame.{frameBytes, ofThree, ofFour, frameOf, parse, textOf, key}
 use Rattle.frames.specs.Check.{passed, start, next, nextLine, parsedLines, framesOf}
 use Rattle.frames.proofs.Checks.{TextOf, accepted-frames}

@@ -88,13 +88,13 @@ pub line-read : (l : Line) (f : Frame) → parse l ≡ Good f → (lineText l �
 unfolding parse soundLine lineText lineOf
 line-read l f = go (soundLine l) refl
   where
-    go : (x : Bool) → soundLine l ≡ x → cond x (frameOf (toBytes (l .digits))) NoBytes ≡ Good f →
+    go : (x : Bool) → soundLine l ≡ x → cond x (frameOf (toBytes (l .bytes))) NoBytes ≡ Good f →
         (lineText l ≡ lineOf (frameBytes f)) × Bytes (frameBytes f)
     go true s e =
-        let a = both-true (l .ended && nonEmpty (l .digits)) (digitPairs (l .digits)) s in
-        let b = both-true (l .ended) (nonEmpty (l .digits)) (a .0) in
-        let g = frame-bytes (toBytes (l .digits)) f e in
-        (rw (b .0, g, digits-back (l .digits) (a .1)), rw g (pairs-bytes (l .digits) (a .1)))
+        let a = both-true (l .ended && nonEmpty (l .bytes)) (digitPairs (l .bytes)) s in
+        let b = both-true (l .ended) (nonEmpty (l .bytes)) (a .0) in
+        let g = frame-bytes (toBytes (l .bytes)) f e in
+        (rw (b .0, g, digits-back (l .bytes) (a .1)), rw g (pairs-bytes (l .bytes) (a .1)))
     go false s e = let z : _≡_ {A = ℕ} 0 1 = cc in absurd (omega arith)
 
 -- ---- frames and their text

@@ -6,15 +6,15 @@ use Rattle.answers.specs.Call.{firstRefusal}
 use Rattle.digits.specs.Digit.{isDigit, digitValue, digitByte, digitPairs, toBytes, toDigits}
 use Rattle.digits.specs.Line.{joined, lines, nonEmpty, soundLine, lineOf}
 use Rattle.digits.specs.Text.{codes}
-use Rattle.frames.specs.declared.Verdict.{Verdict}
+use Rattle.frames.specs.declared.CheckedText.{CheckedText}
 use Rattle.frames.specs.Frame.{ofThree, ofFour, frameOf, parse, key}
 use Rattle.frames.specs.Check.{start, next, misplaced, oversized, outOfRange, tooMany, miscounted, frameRefusals, parsedRefusals, lineRefusals, nextLine, check, parsedLines}
 
-unfoldable pub bytesVerdict : List ℕ → Verdict
+unfoldable pub bytesVerdict : List ℕ → CheckedText
 unfolding isDigit digitValue digitPairs toBytes joined lines nonEmpty soundLine ofThree ofFour frameOf parse key start next misplaced oversized outOfRange tooMany miscounted firstRefusal frameRefusals parsedRefusals lineRefusals nextLine check parsedLines
 bytesVerdict text = check start (parsedLines text)
 
-unfoldable pub verdict : String → Verdict
+unfoldable pub verdict : String → CheckedText
 unfolding bytesVerdict codes
 verdict text = bytesVerdict (codes text)
 

@@ -14,8 +14,8 @@ use Rattle.frames.specs.declared.Frame.the-variants.{Header, Assign, Per
 use Rattle.frames.specs.declared.Parsed.{Parsed}
 use Rattle.frames.specs.declared.Parsed.the-variants.{NoBytes, NoFrame, Good}
 use Rattle.frames.specs.declared.Passed.{Passed}
-use Rattle.frames.specs.declared.Verdict.{Verdict}
-use Rattle.frames.specs.declared.Verdict.the-variants.{Refused, Accepted}
+use Rattle.frames.specs.declared.CheckedText.{CheckedText}
+use Rattle.frames.specs.declared.CheckedText.the-variants.{Refused, Accepted}
 use Rattle.frames.specs.Frame.{parse, key}
 
 -- what is known of the lines before: how many, whether the end line was among them, the header's counts, the key of the last, the
@@ -104,7 +104,7 @@ nextLine k NoFrame = k
 nextLine k (Good f) = next k f
 
 -- "the first faulty line decides"; "If the text stops with no end line: 9, with the number of lines plus 1"
-unfoldable pub check : Passed → List Parsed → Verdict
+unfoldable pub check : Passed → List Parsed → CheckedText
 check k [] = cond (k .ended) Accepted (Refused 9 (k .lines + 1))
 check k (p ∷ ps) = elim (firstRefusal (lineRefusals k p)) [ zero ↦ check (nextLine k p) ps | suc n ↦ Refused (suc n) (k .lines + 1) ]
 

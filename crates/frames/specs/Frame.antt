@@ -41,7 +41,7 @@ frameOf (k ∷ a ∷ b ∷ c ∷ d ∷ t) = NoFrame
 
 -- "one frame a line"
 unfoldable pub parse : Line → Parsed
-parse l = cond (soundLine l) (frameOf (toBytes (l .digits))) NoBytes
+parse l = cond (soundLine l) (frameOf (toBytes (l .bytes))) NoBytes
 
 -- the text of frames, a line each
 unfoldable pub textOf : List Frame → List ℕ

@@ -27,7 +27,7 @@ pub struct Passed {
 }
 
 // What a whole text comes to: a number at a line, or nothing to refuse.
-pub enum Verdict {
+pub enum CheckedText {
     Refused(u8, usize),
     Accepted,
 }

@@ -11,7 +11,7 @@ use Rattle.answers.proofs.Marks.{mark-agrees}
 use Rattle.rows.specs.Written.{FlowRow}
 use Rattle.chains.specs.Shown.{ShownChain, shown, missing}
 use Rattle.chains.specs.Distance.{Smallest}
-use Rattle.separations.specs.Verdict.{Broken, FirstBroken, judged, Verdict, hold, broken}
+use Rattle.separations.specs.Judgement.{Broken, FirstBroken, judged, Judgement, hold, broken}
 use Rattle.judging.specs.Inner.{HeldRow}
 
 -- ---- the search
@@ -29,13 +29,13 @@ module _ {n x : ℕ} {ch : ℕ → ℕ → Type 0} {row : List ℕ} (r : FlowRow
 
 -- ---- what is found
 module _ {ch : ℕ → ℕ → Type 0} {count r : ℕ} {separations : List ℕ} (s : Smallest (λ i. Broken ch separations i) count r) where
-  pub found-none : r ≡ count → (before : List ℕ) → Verdict ch count separations before (judged 0 0 0, before)
+  pub found-none : r ≡ count → (before : List ℕ) → Judgement ch count separations before (judged 0 0 0, before)
   found-none e before = hold (λ j h. s .before j (omega arith)) refl
 
   found-first : r ≢ count → FirstBroken ch count separations r
   found-first ne = let below : r < count = omega (arith, s .within) in record { below = below; broken = s .found below; before = s .before }
 
   pub found-one : r ≢ count → {before after : List ℕ} {k : ℕ} → ShownChain ch (from separations r) (to separations r) before after k →
-      Verdict ch count separations before (judged 14 r k, after)
+      Judgement ch count separations before (judged 14 r k, after)
   found-one ne (shown l b e w) = broken r l (found-first ne) b (rw (e, w))
   found-one ne (missing none e w) = absurd (none (found-first ne .broken))

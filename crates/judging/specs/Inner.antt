@@ -4,8 +4,8 @@ use mathlib.Core.Path.{_≡_}
 use mathlib.Core.List.{List}
 use lib.ListN.{length}
 use Rattle.answers.specs.Sizes.{mostEntities, leastSeparations}
-use Rattle.tables.specs.Inner.{Listed}
 use Rattle.rows.specs.Written.{FlowRow}
+use Rattle.tables.specs.Refusals.{Listed}
 
 -- a channel table of n entities, and separations among them
 pub record Searchable (n : ℕ) (channels : List ℕ) (count : ℕ) (separations : List ℕ) : Type 0 where

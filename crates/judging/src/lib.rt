@@ -8,7 +8,7 @@ ghost use Rattle.answers.specs.Sizes.{mostEntities};
 ghost use Rattle.answers.specs.Rows.{Bytes};
 ghost use Rattle.rows.specs.Written.{FlowRow};
 ghost use Rattle.chains.specs.Distance.{Smallest};
-ghost use Rattle.separations.specs.Verdict.{Broken, Verdict};
+ghost use Rattle.separations.specs.Judgement.{Broken, Judgement};
 ghost use Rattle.judging.specs.Inner.{HeldRow, Searchable};
 
 // The number at place `k` of the separations.
@@ -66,7 +66,7 @@ pub fn judge_channels(
     chain: &mut [u8],
 ) -> Judged
     requires { ⌜ Searchable n (now channels) count (now separations) × (n ≤ length (now chain)) ⌝ }
-    ensures { λ r. ⌜ Verdict (Bytes n (now (channels .entry))) count (now (separations .entry)) (now (chain .entry)) (r, now (chain .exit)) ⌝ }
+    ensures { λ r. ⌜ Judgement (Bytes n (now (channels .entry))) count (now (separations .entry)) (now (chain .entry)) (r, now (chain .exit)) ⌝ }
 {
     let mut row = [0u8; sizes::MOST_ENTITIES];
     let first = first_broken(channels, n, count, separations, &mut row[..n]);

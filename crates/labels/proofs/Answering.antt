@@ -7,7 +7,7 @@ use native.Mathlib.Omega.{arith}
 use Rattle.answers.specs.Rows.{Mark, one, none, Bytes}
 use Rattle.answers.proofs.Marks.{mark-agrees, marked-yes, marked-no, marked-unless, marked-other}
 use Rattle.theory.specs.Order.{Equivalent, ClassName, below, GreatestSecrecy, GreatestIntegrity, Greatest}
-use Rattle.labels.specs.Inner.{Asked, Leaves}
+use Rattle.labels.specs.Inner.{Asked, FlowsOn}
 use Rattle.labels.proofs.Judged.{byte-marks}
 
 -- ---- a search that goes up: none of the numbers passed has P
@@ -34,13 +34,13 @@ module _ (n : ℕ) (table : List ℕ) (x y : ℕ) where
   not-there there p e = none refl (λ r. marked-no p e (r .there))
 
   -- ---- another entity
-  pub leaves-nothing : x ≡ y → Mark (Leaves n table x y) 0
+  pub leaves-nothing : x ≡ y → Mark (FlowsOn n table x y) 0
   leaves-nothing e = none refl (λ l. l .other e)
 
-  pub leaves-if : (x ≡ y → ⊥) → (b : ℕ) → Mark (Bytes n table x y) b → Mark (Leaves n table x y) b
+  pub leaves-if : (x ≡ y → ⊥) → (b : ℕ) → Mark (Bytes n table x y) b → Mark (FlowsOn n table x y) b
   leaves-if ne b = mark-agrees (λ f. record { flows = f; other = ne }) (λ l. l .flows)
 
-  only-itself : (Leaves n table x y → ⊥) → Bytes n table x y → x ≡ y
+  only-itself : (FlowsOn n table x y → ⊥) → Bytes n table x y → x ≡ y
   only-itself never f = go (ℕ-discrete x y)
     where
       go : Dec (x ≡ y) → x ≡ y
@@ -75,16 +75,16 @@ module _ (n : ℕ) (table : List ℕ) (x : ℕ) (a : Asked n table x x) where
 
 -- ---- greatest secrecy and integrity
 module _ (n : ℕ) (table : List ℕ) (x y : ℕ) where
-  pub not-secret : y < n → (b : ℕ) → Mark (Leaves n table x y) b → b ≡ 1 → Mark (GreatestSecrecy n (Bytes n table) x) 0
+  pub not-secret : y < n → (b : ℕ) → Mark (FlowsOn n table x y) b → b ≡ 1 → Mark (GreatestSecrecy n (Bytes n table) x) 0
   not-secret h b m e = let l = marked-yes m e in none refl (λ g. l .other (sym (g y h (l .flows))))
 
-  pub secret : n ≤ y → NoneBelow y (Leaves n table x) → Mark (GreatestSecrecy n (Bytes n table) x) 1
+  pub secret : n ≤ y → NoneBelow y (FlowsOn n table x) → Mark (GreatestSecrecy n (Bytes n table) x) 1
   secret h before = one refl (λ z hz f. sym (only-itself n table x z (before .none-has z (omega arith)) f))
 
-  pub not-integral : y < n → (b : ℕ) → Mark (Leaves n table y x) b → b ≡ 1 → Mark (GreatestIntegrity n (Bytes n table) x) 0
+  pub not-integral : y < n → (b : ℕ) → Mark (FlowsOn n table y x) b → b ≡ 1 → Mark (GreatestIntegrity n (Bytes n table) x) 0
   not-integral h b m e = let l = marked-yes m e in none refl (λ g. l .other (g y h (l .flows)))
 
-  pub integral : n ≤ y → NoneBelow y (λ z. Leaves n table z x) → Mark (GreatestIntegrity n (Bytes n table) x) 1
+  pub integral : n ≤ y → NoneBelow y (λ z. FlowsOn n table z x) → Mark (GreatestIntegrity n (Bytes n table) x) 1
   integral h before = one refl (λ z hz f. only-itself n table z x (before .none-has z (omega arith)) f)
 
 pub flagged : (n : ℕ) (table : List ℕ) (x s i : ℕ) → Mark (GreatestSecrecy n (Bytes n table) x) s → Mark (GreatestIntegrity n (Bytes n table) x) i →

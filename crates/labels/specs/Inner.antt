@@ -5,7 +5,7 @@ use mathlib.Core.List.{List}
 use lib.ListN.{length}
 use Rattle.answers.specs.Sizes.{leastLabel}
 use Rattle.answers.specs.Rows.{Bytes}
-use Rattle.tables.specs.Inner.{SoundFlow}
+use Rattle.tables.specs.FlowTable.{SoundFlow}
 
 -- a sound flow table that passed 10 of x and y
 pub record Asked (n : ℕ) (table : List ℕ) (x y : ℕ) : Type 0 where
@@ -19,6 +19,6 @@ pub record Labelling (n : ℕ) (table : List ℕ) (x : ℕ) (label : List ℕ) :
   pub label-room : leastLabel ≤ length label
 
 -- x flows to y, and y is another entity
-pub record Leaves (n : ℕ) (table : List ℕ) (x y : ℕ) : Type 0 where
+pub record FlowsOn (n : ℕ) (table : List ℕ) (x y : ℕ) : Type 0 where
   pub flows : Bytes n table x y
   pub other : x ≡ y → ⊥

@@ -3,7 +3,7 @@ ghost use Rattle.answers.specs.Call.{told};
 ghost use Rattle.answers.specs.Rows.{Mark, Bytes};
 ghost use Rattle.theory.specs.Order.{Equivalent, ClassName, GreatestSecrecy, GreatestIntegrity, Greatest};
 ghost use Rattle.labels.specs.Labelled.{Labelled};
-ghost use Rattle.labels.specs.Inner.{Asked, Labelling, Leaves};
+ghost use Rattle.labels.specs.Inner.{Asked, Labelling, FlowsOn};
 
 // 1 if `x` flows to `y`, 0 if not.
 pub fn flow_byte(n: usize, table: &[u8], x: usize, y: usize) -> u8
@@ -60,7 +60,7 @@ pub fn smallest_member(n: usize, table: &[u8], x: usize) -> usize
 // 1 if `x` flows to `y` and `y` is another entity, 0 if not.
 fn leaves(n: usize, table: &[u8], x: usize, y: usize) -> u8
     requires { ⌜ Asked n (now table) x y ⌝ }
-    ensures { λ r. ⌜ Mark (Leaves n (now (table .entry)) x y) r ⌝ }
+    ensures { λ r. ⌜ Mark (FlowsOn n (now (table .entry)) x y) r ⌝ }
 {
     if x == y {
         return 0;

@@ -1,4 +1,4 @@
--- Where line number k lies: the bytes from its start to its end are its digits, and a line that is not there lies at the end.
+-- Where line number k lies: the bytes from its start to its end are its own, and a line that is not there lies at the end.
 use Prim.Native.Nat.{ℕ, zero, suc, _+_, _-_, _≤_}
 use mathlib.Core.Path.{_≡_, ap, refl, _∙_}
 use mathlib.Core.Bool.{Bool, true, false, cond}
@@ -6,18 +6,14 @@ use mathlib.Core.List.{List, [], _∷_, append-assoc}
 use native.Mathlib.Omega.{arith}
 use lib.ListN.{length, getD, take, drop, length-append, List·getD-eq-default}
 use lib.Seq.{take-all, take-append-seam, drop-append-add}
-use Rattle.digits.specs.Line.{Line, feed, noLine, lines, lineSize, sizeOf, lineStart, lineEnd}
+use Rattle.digits.specs.Line.{lineBytes, Line, feed, noLine, lines, lineSize, sizeOf, lineStart, lineEnd}
 use Rattle.digits.proofs.Lines.{lineText, whole, whole-lines}
-
--- the digits of line number k + 1: none where there is no such line
-abbrev pub digitsOf : List ℕ → ℕ → List ℕ
-digitsOf t k = getD (lines t) k noLine .digits
 
 text-size : (l : Line) → length (lineText l) ≡ lineSize l
 unfolding lineText lineSize
-text-size l = length-append (l .digits) _ ∙ go (l .ended)
+text-size l = length-append (l .bytes) _ ∙ go (l .ended)
   where
-    go : (b : Bool) → length (l .digits) + length (cond b (feed ∷ []) []) ≡ length (l .digits) + cond b 1 0
+    go : (b : Bool) → length (l .bytes) + length (cond b (feed ∷ []) []) ≡ length (l .bytes) + cond b 1 0
     go true = refl
     go false = refl
 
@@ -30,7 +26,7 @@ pub size-lines : (t : List ℕ) → sizeOf (lines t) ≡ length t
 size-lines t = whole-size (lines t) ∙ ap length (whole-lines t)
 
 -- ---- the start and the end are places of the text
-ends-within : (ls : List Line) (k : ℕ) → sizeOf (take k ls) + length (getD ls k noLine .digits) ≤ sizeOf ls
+ends-within : (ls : List Line) (k : ℕ) → sizeOf (take k ls) + length (getD ls k noLine .bytes) ≤ sizeOf ls
 unfolding sizeOf lineSize
 ends-within [] zero = omega arith
 ends-within [] (suc k) = omega arith
@@ -47,20 +43,20 @@ unfolding lineEnd lineStart
 start-first t zero = omega arith
 start-first t (suc k) = omega arith
 
--- ---- "without its line feed": the part is the digits of the line
-digits-at : (ls : List Line) (k : ℕ) → let digits : List ℕ = getD ls k noLine .digits in take (length digits) (drop (sizeOf (take k ls)) (whole ls)) ≡ digits
+-- ---- "without its line feed": the part is the bytes of the line
+bytes-at : (ls : List Line) (k : ℕ) → let bytes : List ℕ = getD ls k noLine .bytes in take (length bytes) (drop (sizeOf (take k ls)) (whole ls)) ≡ bytes
 unfolding sizeOf whole lineText
-digits-at [] zero = refl
-digits-at [] (suc k) = refl
-digits-at (l ∷ ls) zero = rw append-assoc (take-append-seam (l .digits) _)
-digits-at (l ∷ ls) (suc k) = rw (← text-size l, drop-append-add) (digits-at ls k)
+bytes-at [] zero = refl
+bytes-at [] (suc k) = refl
+bytes-at (l ∷ ls) zero = rw append-assoc (take-append-seam (l .bytes) _)
+bytes-at (l ∷ ls) (suc k) = rw (← text-size l, drop-append-add) (bytes-at ls k)
 
-pub line-bytes : (t : List ℕ) (k : ℕ) → take (lineEnd t (suc k) - lineStart t (suc k)) (drop (lineStart t (suc k)) t) ≡ digitsOf t k
+pub line-bytes : (t : List ℕ) (k : ℕ) → take (lineEnd t (suc k) - lineStart t (suc k)) (drop (lineStart t (suc k)) t) ≡ lineBytes t k
 unfolding lineEnd lineStart
 line-bytes t k =
     let start : ℕ = sizeOf (take k (lines t)) in
-    let size : start + length (digitsOf t k) - start ≡ length (digitsOf t k) = omega arith in
-    rw size (rw (whole-lines t) at (digits-at (lines t) k))
+    let size : start + length (lineBytes t k) - start ≡ length (lineBytes t k) = omega arith in
+    rw size (rw (whole-lines t) at (bytes-at (lines t) k))
 
 -- ---- "If there is no such line, the part is the empty one at the text's end"
 pub line-zero : (t : List ℕ) → (lineStart t 0 ≡ length t) × (lineEnd t 0 ≡ length t)

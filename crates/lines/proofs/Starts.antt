@@ -32,7 +32,7 @@ first-more : (b : ℕ) (t : List ℕ) → (b ≡ feed → ⊥) → lineEnd (b �
 unfolding lineEnd lineStart sizeOf joined
 first-more b t e = rw (lines-joined b t e) (go (lines t))
   where
-    go : (ls : List Line) → 0 + length (getD (joined b ls) 0 noLine .digits) ≡ suc (0 + length (getD ls 0 noLine .digits))
+    go : (ls : List Line) → 0 + length (getD (joined b ls) 0 noLine .bytes) ≡ suc (0 + length (getD ls 0 noLine .bytes))
     go [] = refl
     go (l ∷ ls) = omega arith
 
@@ -93,7 +93,7 @@ first-dropped (b ∷ t) = go (eqb b feed) (lines t) refl (first-dropped t)
     go true ls e rest = e
     go false [] e rest = rest
     go false (l ∷ ls) e rest =
-        let size : lineSize (line (b ∷ l .digits) (l .ended)) + 0 ≡ suc (lineSize l + 0) = omega arith in
+        let size : lineSize (line (b ∷ l .bytes) (l .ended)) + 0 ≡ suc (lineSize l + 0) = omega arith in
         rw size rest
 
 sizes-append : (xs ys : List Line) → sizeOf (xs ++ ys) ≡ sizeOf xs + sizeOf ys

@@ -17,7 +17,7 @@ use Rattle.digits.specs.Line.{lineOf}
 use Rattle.digits.specs.Text.{codes}
 use Rattle.access.specs.Channel.{Channel, reads, writes}
 use Rattle.text.proofs.Worked.{reading}
-use Rattle.separations.specs.Verdict.{Broken, AllHold}
+use Rattle.separations.specs.Judgement.{Broken, AllHold}
 use Rattle.separations.proofs.Example.{Hop, hop01, hop12, rises}
 use Rattle.output.specs.Output.{EntityLine, EntityLines, none as start, next, VerdictLine, hold, broken, refusalLine, refusal, sheet-lines, Output}
 

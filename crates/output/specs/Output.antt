@@ -4,13 +4,12 @@ use mathlib.Core.Path.{_≡_}
 use mathlib.Core.List.{List, [], _∷_, _++_}
 use lib.ListN.{length}
 use Rattle.tables.specs.Sheet.{Sheet, entities, from, to}
-use Rattle.theory.specs.Flow.{Flow}
 use Rattle.theory.specs.Chain.{Best}
 use Rattle.theory.specs.Order.{LabelSize, ClassName, Greatest}
 use Rattle.digits.specs.Line.{lineOf}
 use Rattle.text.specs.Reading.{Read, refused, accepted, readText}
-use Rattle.access.specs.Channel.{Channel}
-use Rattle.separations.specs.Verdict.{FirstBroken, AllHold}
+use Rattle.access.specs.Channel.{Channel, SheetFlow}
+use Rattle.separations.specs.Judgement.{FirstBroken, AllHold}
 
 -- "A line 81 is entity, class name, flags (1 greatest secrecy, 2 greatest integrity, summed), label size": that of entity x among n
 pub record EntityLine (n : ℕ) (R : ℕ → ℕ → Type 0) (x : ℕ) (bytes : List ℕ) : Type 0 where
@@ -37,7 +36,7 @@ pub data VerdictLine (ch : ℕ → ℕ → Type 0) (count : ℕ) (separations : 
 pub record SheetLines (t : Sheet) (out : List ℕ) : Type 0 where
   pub entity-lines : List ℕ
   pub verdict-line : List ℕ
-  pub each : EntityLines (entities (t .counts)) (Flow (Channel t)) (entities (t .counts)) entity-lines
+  pub each : EntityLines (entities (t .counts)) (SheetFlow t) (entities (t .counts)) entity-lines
   pub verdict : VerdictLine (Channel t) (length (t .separations) / 2) (t .separations) verdict-line
   pub whole : out ≡ entity-lines ++ lineOf verdict-line
 

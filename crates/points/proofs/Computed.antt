@@ -11,9 +11,9 @@ use lib.ListN.{length}
 use borrow.Author.Tests.{eqb-true, eqb-false}
 use Rattle.theory.specs.Flow.{Flow}
 use Rattle.theory.specs.Chain.{Chain, alone, link, NotAfter, equal, Best}
-use Rattle.theory.proofs.Flows.{Inside}
 use Rattle.theory.proofs.Chains.{chain-flow, chain-long, chain-less, only-alone}
 use Rattle.theory.proofs.Exists.{best-exists, best-fits}
+use Rattle.theory.specs.Laws.{Inside}
 
 -- the channels that a test gives, between numbers below n
 pub record Tested (c : ℕ → ℕ → Bool) (n a b : ℕ) : Type 0 where

@@ -12,11 +12,12 @@ use Rattle.tables.specs.Sheet.{Sheet, entities, assignedByte, modeByte}
 use Rattle.answers.proofs.Below.{found, held-by}
 use Rattle.theory.specs.Flow.{Flow}
 use Rattle.theory.specs.Chain.{Best}
-use Rattle.theory.proofs.Flows.{Has, flow-more}
+use Rattle.theory.proofs.Flows.{flow-more}
 use Rattle.theory.proofs.Chains.{best-agrees}
-use Rattle.access.specs.Channel.{read, write, Has as HasMode, Assigned, Plain, May, reads, writes, Channel}
+use Rattle.access.specs.Channel.{read, write, Has, Assigned, Plain, May, reads, writes, Channel}
 use Rattle.access.proofs.Channels.{channel-inside, by-write, by-read}
 use Rattle.points.proofs.Computed.{Tested, chainb, chain-is, flows, flows-not}
+use Rattle.theory.specs.Laws.{Contains}
 
 -- ---- channels
 grantsb : ℕ → ℕ → ℕ → Bool
@@ -37,17 +38,17 @@ both : (a b : Bool) → a && b ≡ true → (a ≡ true) × (b ≡ true)
 both true b e = (refl, e)
 both false b e = absurd (false≢true e)
 
-has-to : (m w : ℕ) (b : Bool) → eqb m w ≡ b → b || eqb m 3 ≡ true → HasMode m w
+has-to : (m w : ℕ) (b : Bool) → eqb m w ≡ b → b || eqb m 3 ≡ true → Has m w
 has-to m w true q e = inl (eqb-true m w q)
 has-to m w false q e = inr (eqb-true m 3 e)
 
-grants-to : (a m w : ℕ) → grantsb a m w ≡ true → (a ≡ 1) × HasMode m w
+grants-to : (a m w : ℕ) → grantsb a m w ≡ true → (a ≡ 1) × Has m w
 unfolding grantsb
 grants-to a m w e =
     let p = both (eqb a 1) _ e in
     (eqb-true a 1 (p .0), has-to m w (eqb m w) refl (p .1))
 
-grants-from : (a m w : ℕ) → a ≡ 1 → HasMode m w → grantsb a m w ≡ true
+grants-from : (a m w : ℕ) → a ≡ 1 → Has m w → grantsb a m w ≡ true
 unfolding grantsb
 grants-from a m w p (inl e) = rw (eq-eqb a 1 p, eq-eqb m w e)
 grants-from a m w p (inr e) = rw (eq-eqb a 1 p, eq-eqb m 3 e, or-true)
@@ -71,7 +72,7 @@ module _ (t : Sheet) where
   abbrev Tests : ℕ → ℕ → Type 0
   Tests = Tested (channelb t) (entities (t .counts))
 
-  pub channel-of-test : Has (Channel t) Tests
+  pub channel-of-test : Contains (Channel t) Tests
   unfolding channelb
   channel-of-test x y c = go (ltb x (t .counts .subjects)) refl (ltb y (t .counts .subjects)) refl (c .holds)
     where
@@ -90,7 +91,7 @@ module _ (t : Sheet) where
           reads (x - t .counts .subjects) object (omega arith) low (may-to read y _ e)
       go false p false q e = absurd (false≢true e)
 
-  pub test-of-channel : Has Tests (Channel t)
+  pub test-of-channel : Contains Tests (Channel t)
   unfolding channelb
   test-of-channel x y c = record { source = channel-inside x y c .0; target = channel-inside x y c .1; holds = go c }
     where

@@ -4,3 +4,4 @@ pub mod ComputedSheet
 pub mod ComputedQuestions
 pub mod Table
 pub mod WorkedOutput
+pub mod RoleOfNobody

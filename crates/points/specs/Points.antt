@@ -3,19 +3,14 @@ use Prim.Native.Nat.{ℕ}
 use mathlib.Core.Path.{_≡_}
 use mathlib.Core.List.{List, [], _∷_}
 use Rattle.tables.specs.Sheet.{Sheet, entities}
-use Rattle.theory.specs.Flow.{Flow}
 use Rattle.theory.specs.Chain.{Best}
 use Rattle.theory.specs.Order.{Label, ClassName, below, Compares}
-use Rattle.access.specs.Channel.{Channel}
+use Rattle.access.specs.Channel.{Channel, SheetFlow}
 use Rattle.change.specs.Change.{withPermission}
 use Rattle.transfers.specs.declared.Act.{Act}
 use Rattle.transfers.specs.declared.Transfer.{Transfer}
 use Rattle.transfers.specs.Acts.{verdictBytes, after, AllCome}
 use Rattle.transfers.specs.Transfers.{transfer, Comes}
-
--- the flow of a sheet
-abbrev pub Flows : Sheet → ℕ → ℕ → Type 0
-Flows t = Flow (Channel t)
 
 -- "With role 1 given mode 3 on object 1"
 abbrev pub changed : Sheet → Sheet
@@ -31,18 +26,18 @@ pub record Leaves (t : Sheet) (transfers : List Transfer) (marks : List ℕ) (ve
 -- the table
 pub record Points (t : Sheet) : Type 0 where
   -- "1. flow 0 to 4: yes. 2. flow 4 to 0: no. 3. flow 5 to 2: yes. 4. flow 4 to 5: no."
-  pub point-1 : Flows t 0 4
-  pub point-2 : Flows t 4 0 → ⊥
-  pub point-3 : Flows t 5 2
-  pub point-4 : Flows t 4 5 → ⊥
+  pub point-1 : SheetFlow t 0 4
+  pub point-2 : SheetFlow t 4 0 → ⊥
+  pub point-3 : SheetFlow t 5 2
+  pub point-4 : SheetFlow t 4 5 → ⊥
   -- "5. chain 0 to 4: 0, 3, 1, 4. 6. chain 2 to 2: 2."
   pub point-5 : Best (Channel t) 0 4 (0 ∷ 3 ∷ 1 ∷ 4 ∷ [])
   pub point-6 : Best (Channel t) 2 2 (2 ∷ [])
   -- "7. label of 4: 0, 1, 3, 4."
-  pub point-7 : Label (entities (t .counts)) (Flows t) 4 (1 ∷ 1 ∷ 0 ∷ 1 ∷ 1 ∷ 0 ∷ [])
+  pub point-7 : Label (entities (t .counts)) (SheetFlow t) 4 (1 ∷ 1 ∷ 0 ∷ 1 ∷ 1 ∷ 0 ∷ [])
   -- "8. With role 1 given mode 3 on object 1, the class of 4 is named 1. 9. There, 3 is still below 4."
-  pub point-8 : ClassName (entities (t .counts)) (Flows (changed t)) 4 1
-  pub point-9 : Compares (Flows (changed t)) 3 4 below
+  pub point-8 : ClassName (entities (t .counts)) (SheetFlow (changed t)) 4 1
+  pub point-9 : Compares (SheetFlow (changed t)) 3 4 below
   -- "10. Marks 7,0,0,0,0,0; transfers (0,0,2), (1,0,1), (1,1,2): marks 7,7,0,7,7,0."
   pub point-10 :
       Leaves t (transfer 0 0 2 ∷ transfer 1 0 1 ∷ transfer 1 1 2 ∷ []) (7 ∷ 0 ∷ 0 ∷ 0 ∷ 0 ∷ 0 ∷ []) (0 ∷ 0 ∷ 0 ∷ []) (7 ∷ 7 ∷ 0 ∷ 7 ∷ 7 ∷ 0 ∷ [])

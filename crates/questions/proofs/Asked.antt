@@ -1,14 +1,13 @@
 -- What a question has that no refusal met, and that one on a sound table meets none.
 use Prim.Native.Nat.{ℕ, _<_}
-use mathlib.Core.Path.{_≡_}
+use mathlib.Core.Path.{_≡_, refl}
 use mathlib.Core.Bool.{Bool, false}
 use mathlib.Core.List.{List}
 use borrow.Author.Tests.{leb-false, lt-leb}
 use Rattle.answers.specs.Call.{firstRefusal, _then_}
 use Rattle.answers.proofs.Calls.{none-left, passed, pass, passed-then, pass-then}
-use Rattle.tables.specs.FlowTable.{flowRefusals, entityRefusals, pairAskedRefusals}
+use Rattle.tables.specs.FlowTable.{flowRefusals, entityRefusals, pairAskedRefusals, SoundFlow}
 use Rattle.questions.specs.Questions.{bothAskedRefusals}
-use Rattle.tables.specs.Inner.{SoundFlow}
 use Rattle.labels.specs.Inner.{Asked}
 use Rattle.tables.proofs.FlowTables.{flow-numbered, flow-passed, flow-pass}
 
@@ -33,3 +32,9 @@ pub asked-pass : (n : ℕ) (table : List ℕ) → SoundFlow n table → (short :
 unfolding entityRefusals
 asked-pass n table a short s x h =
     pass-then (flowRefusals short n table) _ (flow-numbered short n table) (flow-pass n table a short s) (pass 10 _ _ (lt-leb _ _ h) none-left)
+
+pub both-pass : (n : ℕ) (table : List ℕ) → SoundFlow n table → (x y : ℕ) → x < n → y < n → firstRefusal (bothAskedRefusals n table x y) ≡ 0
+unfolding bothAskedRefusals pairAskedRefusals
+both-pass n table a x y hx hy =
+    pass-then (flowRefusals false n table) _ (flow-numbered false n table) (flow-pass n table a false refl)
+    (pass 10 _ _ (lt-leb _ _ hx) (pass 10 _ _ (lt-leb _ _ hy) none-left))

@@ -11,6 +11,7 @@ use Rattle.answers.specs.Rows.{Bytes, anyBelow}
 use Rattle.theory.specs.Order.{below, Compares, only-there}
 use Rattle.tables.specs.FlowTable.{byteRefusals, flowSizeRefusals, flowRefusals, entityRefusals, pairAskedRefusals}
 use Rattle.questions.specs.Questions.{askedRefusals, bothAskedRefusals}
+use Rattle.questions.proofs.Asked.{asked-passed, both-pass}
 
 -- four bytes, and what the buffer has behind them
 table : ℕ → ℕ → ℕ → ℕ → List ℕ
@@ -51,3 +52,8 @@ flow-order =
       second-outside = refl;
       sound = refl;
     }
+
+-- a sound table is not refused
+passes : firstRefusal (bothAskedRefusals 2 (table 1 1 0 1) 0 1) ≡ 0
+unfolding flowRefusals askedRefusals
+passes = both-pass 2 (table 1 1 0 1) (asked-passed _ 2 (table 1 1 0 1) 1 (flow-order .sound) .1 .accepted) 0 1 (lit< tt) (lit< tt)

@@ -19,6 +19,10 @@ askedRefusals n table x = flowRefusals noOther n table then entityRefusals n x
 unfoldable pub bothAskedRefusals : ℕ → List ℕ → ℕ → ℕ → List Refusal
 bothAskedRefusals n table x y = flowRefusals noOther n table then pairAskedRefusals n x y
 
+-- and of the label of x, in a buffer
+abbrev pub labelRefusals : ℕ → List ℕ → ℕ → List ℕ → List Refusal
+labelRefusals n table x label = flowRefusals (shorter label leastLabel) n table then entityRefusals n x
+
 -- a call that answers 0 and one value, of which `Right` says that it is right
 pub record Answered (Right : ℕ → Type 0) (result : Told) : Type 0 where
   pub answer : result .answer ≡ 0
@@ -31,7 +35,7 @@ Flows n table x y = Outcome (bothAskedRefusals n table x y) (λ k. told k 0) (An
 -- the contract of `label`
 abbrev pub Labels : ℕ → List ℕ → ℕ → List ℕ → Told × List ℕ → Type 0
 Labels n table x before =
-    Outcome (flowRefusals (shorter before leastLabel) n table then entityRefusals n x) (toldAndLeft before) (Labelled n table x before)
+    Outcome (labelRefusals n table x before) (toldAndLeft before) (Labelled n table x before)
 
 -- the contract of `class_name`: "A class is named by its smallest member"
 abbrev pub Names : ℕ → List ℕ → ℕ → Told → Type 0

@@ -11,7 +11,7 @@ use Rattle.frames.specs.declared.Frame.the-variants.{Header, Assign, Permit, Se
 use Rattle.frames.specs.declared.Parsed.{Parsed}
 use Rattle.frames.specs.declared.Parsed.the-variants.{NoBytes, NoFrame, Good}
 use Rattle.frames.specs.declared.Passed.{Passed}
-use Rattle.frames.specs.declared.Verdict.the-variants.{Accepted}
+use Rattle.frames.specs.declared.CheckedText.the-variants.{Accepted}
 use Rattle.frames.specs.Check.{start, next, nextLine, misplaced, check, framesOf}
 use Rattle.frames.proofs.Checks.{Fine, fine-of, line-passed}
 use Rattle.checking.specs.Inner.{afterLines}

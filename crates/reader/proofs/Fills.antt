@@ -15,14 +15,14 @@ use Rattle.frames.specs.declared.Frame.the-variants.{Header, Assign, Permit, Se
 use Rattle.frames.specs.declared.Parsed.{Parsed}
 use Rattle.frames.specs.declared.Parsed.the-variants.{NoBytes, NoFrame, Good}
 use Rattle.frames.specs.declared.Passed.{Passed}
-use Rattle.frames.specs.declared.Verdict.the-variants.{Accepted}
+use Rattle.frames.specs.declared.CheckedText.the-variants.{Accepted}
 use Rattle.frames.specs.Check.{start, next, nextLine, misplaced, lineRefusals, check, parsedLines, framesOf}
 use Rattle.frames.proofs.Checks.{Fine, fine-of, line-passed}
 use Rattle.frames.proofs.Ranges.{header-fits, separate-room}
 use Rattle.parsing.specs.declared.Found.{Found}
 use Rattle.parsing.specs.Inner.{FoundAt}
 use Rattle.text.specs.Content.{blank, addAll, contentOf}
-use Rattle.reader.specs.Fill.{Tables, Long, Filled}
+use Rattle.reader.specs.Fill.{Tables, LongTables, TablesFilled}
 use Rattle.reader.specs.Inner.{held, assignmentUsed, permissionUsed, separationsUsed, Within, Passes, LineStored}
 use Rattle.reader.proofs.Stores.{assignment-room, permission-room}
 
@@ -53,7 +53,7 @@ filling-start t b k e h =
       assignment-length = refl;
       permission-length = refl;
       separations-length = refl;
-      within = record { subjects = omega arith; objects = omega arith; roles = omega arith; separations = omega arith; fresh = λ _. refl };
+      within = record { counts-fit = record { subjects = omega arith; objects = omega arith; roles = omega arith }; separations = omega arith; fresh = λ _. refl };
       few-lines = omega arith;
       near = omega arith;
     })
@@ -82,21 +82,19 @@ module _ (k : Passed) (w : Within k) where
   unfolding next
   within-frame (Header s o r) p =
       let x = header-fits s o r .0 (p .not-oversized) in
-      record { subjects = x .0; objects = x .1; roles = x .2; separations = w .separations; fresh = λ z. absurd (omega arith) }
+      record { counts-fit = record { subjects = x .0; objects = x .1; roles = x .2 }; separations = w .separations; fresh = λ z. absurd (omega arith) }
   within-frame (Assign s r) p =
-      record { subjects = w .subjects; objects = w .objects; roles = w .roles; separations = w .separations; fresh = λ z. absurd (omega arith) }
+      record { counts-fit = w .counts-fit; separations = w .separations; fresh = λ z. absurd (omega arith) }
   within-frame (Permit r o m) p =
-      record { subjects = w .subjects; objects = w .objects; roles = w .roles; separations = w .separations; fresh = λ z. absurd (omega arith) }
+      record { counts-fit = w .counts-fit; separations = w .separations; fresh = λ z. absurd (omega arith) }
   within-frame (Separate x y) p =
       record {
-        subjects = w .subjects;
-        objects = w .objects;
-        roles = w .roles;
+        counts-fit = w .counts-fit;
         separations = omega (arith, separate-room k x y .0 (p .not-too-many));
         fresh = λ z. absurd (omega arith);
       }
   within-frame (End v l) p =
-      record { subjects = w .subjects; objects = w .objects; roles = w .roles; separations = w .separations; fresh = λ z. absurd (omega arith) }
+      record { counts-fit = w .counts-fit; separations = w .separations; fresh = λ z. absurd (omega arith) }
 
   module _ (x : Parsed) (fine : firstRefusal (lineRefusals k x) ≡ 0) where
     grows-line : Grows k (nextLine k x)
@@ -133,7 +131,7 @@ kept : (n : ℕ) (a b : List ℕ) → n ≤ length a → drop n a ≡ drop n b �
 unfolding over
 kept n a b h e = sym (take-append-drop n a) ∙ ap (λ (l : List ℕ). take n a ++ l) (e ∙ ap (λ (m : ℕ). drop m b) (sym (length-take-le n a h)))
 
-parts-kept : (t : List ℕ) (b₀ b : Tables) (k : Passed) (i : ℕ) → Filling t b₀ b k i → Long b₀ → Filled (held k b) b₀ b
+parts-kept : (t : List ℕ) (b₀ b : Tables) (k : Passed) (i : ℕ) → Filling t b₀ b k i → LongTables b₀ → TablesFilled (held k b) b₀ b
 unfolding sheetOf
 parts-kept t b₀ b k i s long =
     let a-fits : assignmentUsed k ≤ length (b .assignment) = omega (arith, assignment-room k (s .within), s .assignment-length, long .assignment-long) in
@@ -179,7 +177,7 @@ module _ (t : List ℕ) (b₀ b : Tables) (k : Passed) (i : ℕ) (s : Filling t 
           near = here .near;
         })
 
-  pub still-long : Long b₀ → Long b
+  pub still-long : LongTables b₀ → LongTables b
   still-long l =
       record {
         assignment-long = omega (arith, l .assignment-long, s .assignment-length);
@@ -188,12 +186,12 @@ module _ (t : List ℕ) (b₀ b : Tables) (k : Passed) (i : ℕ) (s : Filling t 
       }
 
   -- no line is left
-  pub filling-done : length t ≤ i → Long b₀ → Filled (contentOf (framesOf (parsedLines t))) b₀ b
+  pub filling-done : length t ≤ i → LongTables b₀ → TablesFilled (contentOf (framesOf (parsedLines t))) b₀ b
   unfolding addAll framesOf parsedLines lines
-  filling-done done long = subst (λ (u : Sheet). Filled u b₀ b) all holding
+  filling-done done long = subst (λ (u : Sheet). TablesFilled u b₀ b) all holding
     where
       all : held k b ≡ contentOf (framesOf (parsedLines t))
       all = ap (λ (l : List ℕ). addAll (held k b) (framesOf (parsedLines l))) (sym (drop-of-length-le t {i = i} done)) ∙ s .said
 
-      holding : Filled (held k b) b₀ b
+      holding : TablesFilled (held k b) b₀ b
       holding = parts-kept t b₀ b k i s long

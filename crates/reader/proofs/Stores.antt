@@ -24,10 +24,10 @@ use Rattle.reader.specs.Inner.{assignmentUsed, permissionUsed, separatio
 
 -- ---- the used parts are within the least lengths
 pub assignment-room : (k : Passed) → Within k → assignmentUsed k ≤ 2304
-assignment-room k w = product-within _ _ 48 48 2304 (w .subjects) (w .roles) (omega arith)
+assignment-room k w = product-within _ _ 48 48 2304 (w .counts-fit .subjects) (w .counts-fit .roles) (omega arith)
 
 pub permission-room : (k : Passed) → Within k → permissionUsed k ≤ 3072
-permission-room k w = product-within _ _ 48 64 3072 (w .roles) (w .objects) (omega arith)
+permission-room k w = product-within _ _ 48 64 3072 (w .counts-fit .roles) (w .counts-fit .objects) (omega arith)
 
 -- ---- the place of a frame that passes
 module _ (k : Passed) (f : Frame) (h : Passes k (Good f)) where

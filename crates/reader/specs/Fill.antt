@@ -27,14 +27,14 @@ atEntry assignment permission separations = tables (now (assignment .entry)) (no
 abbrev pub atExit : (assignment permission separations : Loan (List ℕ)) → Tables
 atExit assignment permission separations = tables (now (assignment .exit)) (now (permission .exit)) (now (separations .exit))
 
--- "Least lent lengths, whatever the counts"
-pub record Long (t : Tables) : Type 0 where
+-- "Least lent lengths, whatever the counts: assignment 2,304, permission 3,072, separations 128": the tables have them
+pub record LongTables (t : Tables) : Type 0 where
   pub assignment-long : leastAssignment ≤ length (t .assignment)
   pub permission-long : leastPermission ≤ length (t .permission)
   pub separations-long : leastSeparations ≤ length (t .separations)
 
 -- the whole used parts are written, "Absent pairs mean 0"; "Bytes past the used part are neither judged nor altered"
-pub record Filled (t : Sheet) (before after : Tables) : Type 0 where
+pub record TablesFilled (t : Sheet) (before after : Tables) : Type 0 where
   pub assignment-filled : after .assignment ≡ over (t .assignment) (before .assignment)
   pub permission-filled : after .permission ≡ over (t .permission) (before .permission)
   pub separations-filled : after .separations ≡ over (t .separations) (before .separations)

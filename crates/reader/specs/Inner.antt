@@ -5,7 +5,7 @@ use mathlib.Core.List.{[], _∷_}
 use lib.ListN.{drop}
 use Rattle.answers.specs.Call.{firstRefusal}
 use Rattle.answers.specs.Sizes.{mostSubjects, mostObjects, mostRoles, mostSeparations}
-use Rattle.tables.specs.Sheet.{Sheet, lent, sheetOf}
+use Rattle.tables.specs.Sheet.{CountsFit, Sheet, lent, sheetOf}
 use Rattle.frames.specs.declared.Frame.{Frame}
 use Rattle.frames.specs.declared.Parsed.{Parsed}
 use Rattle.frames.specs.declared.Passed.{Passed}
@@ -29,9 +29,7 @@ separationsUsed k = 2 * k .separations
 
 -- counts within their sizes, and nothing known before the first line
 pub record Within (k : Passed) : Type 0 where
-  pub subjects : k .counts .subjects ≤ mostSubjects
-  pub objects : k .counts .objects ≤ mostObjects
-  pub roles : k .counts .roles ≤ mostRoles
+  pub counts-fit : CountsFit (k .counts)
   pub separations : k .separations ≤ mostSeparations
   pub fresh : k .lines ≡ 0 → k ≡ start
 

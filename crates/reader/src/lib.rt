@@ -4,10 +4,10 @@ ghost use mathlib.Core.List.{_++_};
 ghost use Prim.Native.Nat.{_+_, _*_, _≤_, _<_};
 ghost use lib.ListN.{length, drop, set, replicate};
 ghost use Rattle.frames.specs.declared.Parsed.the-variants.{Good};
-ghost use Rattle.frames.specs.declared.Verdict.the-variants.{Accepted};
+ghost use Rattle.frames.specs.declared.CheckedText.the-variants.{Accepted};
 ghost use Rattle.frames.specs.Check.{start, check, parsedLines, framesOf};
 ghost use Rattle.text.specs.Content.{contentOf};
-ghost use Rattle.reader.specs.Fill.{tables, atEntry, atExit, Long, Filled};
+ghost use Rattle.reader.specs.Fill.{tables, atEntry, atExit, LongTables, TablesFilled};
 ghost use Rattle.reader.specs.Inner.{Passes, FrameStored, LineStored};
 
 // The first bytes become 0, as many as a table of so many rows has.
@@ -51,7 +51,7 @@ fn store_frame(
     separations: &mut [u8],
 )
     requires { ⌜ Passes k (Good f) ⌝ }
-    requires { ⌜ Long (tables (now assignment) (now permission) (now separations)) ⌝ }
+    requires { ⌜ LongTables (tables (now assignment) (now permission) (now separations)) ⌝ }
     ensures { λ r. ⌜ FrameStored k f (atEntry assignment permission separations) (atExit assignment permission separations) ⌝ }
 {
     let c = k.counts;
@@ -82,7 +82,7 @@ fn store_line(
     separations: &mut [u8],
 ) -> frames::Passed
     requires { ⌜ Passes k line ⌝ }
-    requires { ⌜ Long (tables (now assignment) (now permission) (now separations)) ⌝ }
+    requires { ⌜ LongTables (tables (now assignment) (now permission) (now separations)) ⌝ }
     ensures { λ r. ⌜ LineStored k line r (atEntry assignment permission separations) (atExit assignment permission separations) ⌝ }
 {
     match line {
@@ -98,8 +98,8 @@ fn store_line(
 // What an accepted text says, into the tables.
 pub fn fill(text: &[u8], assignment: &mut [u8], permission: &mut [u8], separations: &mut [u8])
     requires { ⌜ check start (parsedLines (now text)) ≡ Accepted ⌝ }
-    requires { ⌜ Long (tables (now assignment) (now permission) (now separations)) ⌝ }
-    ensures { λ r. ⌜ Filled (contentOf (framesOf (parsedLines (now (text .entry))))) (atEntry assignment permission separations) (atExit assignment permission separations) ⌝ }
+    requires { ⌜ LongTables (tables (now assignment) (now permission) (now separations)) ⌝ }
+    ensures { λ r. ⌜ TablesFilled (contentOf (framesOf (parsedLines (now (text .entry))))) (atEntry assignment permission separations) (atExit assignment permission separations) ⌝ }
 {
     let mut k = checking::start_state();
     let mut p = 0;

@@ -7,8 +7,7 @@ use borrow.Author.Tests.{ltb-false}
 use lib.Dec.{T}
 use Rattle.answers.specs.Call.{firstRefusal}
 use Rattle.answers.proofs.Calls.{numbered, passed}
-use Rattle.tables.specs.FlowTable.{flowSizeRefusals}
-use Rattle.tables.specs.Inner.{SizedFlow}
+use Rattle.tables.specs.FlowTable.{flowSizeRefusals, SizedFlow}
 
 module _ (short : Bool) (n : ℕ) (table : List ℕ) where
   pub flow-size-numbered : T (numbered (flowSizeRefusals short n table))

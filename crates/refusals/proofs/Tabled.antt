@@ -27,7 +27,5 @@ module _ (short long : Bool) (l : Lent) where
       record {
         assignment-long = ltb-false _ _ (a .0);
         permission-long = ltb-false _ _ (p .0);
-        subjects = ltb-false _ _ (ns .0);
-        objects = ltb-false _ _ (no′ .0);
-        roles = ltb-false _ _ (nr .0);
+        counts-fit = record { subjects = ltb-false _ _ (ns .0); objects = ltb-false _ _ (no′ .0); roles = ltb-false _ _ (nr .0) };
       }

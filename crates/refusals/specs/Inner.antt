@@ -2,12 +2,10 @@
 use Prim.Native.Nat.{_≤_}
 use lib.ListN.{length}
 use Rattle.answers.specs.Sizes.{mostSubjects, mostObjects, mostRoles, leastAssignment, leastPermission}
-use Rattle.tables.specs.Sheet.{Lent}
+use Rattle.tables.specs.Sheet.{CountsFit, Lent}
 
 -- what bytes are judged by: tables of their least lengths, and counts within their sizes
 pub record Measured (l : Lent) : Type 0 where
   pub assignment-long : leastAssignment ≤ length (l .assignment)
   pub permission-long : leastPermission ≤ length (l .permission)
-  pub subjects : l .counts .subjects ≤ mostSubjects
-  pub objects : l .counts .objects ≤ mostObjects
-  pub roles : l .counts .roles ≤ mostRoles
+  pub counts-fit : CountsFit (l .counts)

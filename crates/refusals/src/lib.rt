@@ -11,8 +11,7 @@ ghost use Rattle.answers.specs.Call.{firstRefusal};
 ghost use Rattle.answers.specs.Rows.{exceeds};
 ghost use Rattle.tables.specs.Sheet.{lent, separationKey};
 ghost use Rattle.tables.specs.Refusals.{sizeRefusals, usedRefusals, sheetRefusals, pairRefusals, separationRefusals};
-ghost use Rattle.tables.specs.FlowTable.{byteRefusals, flowSizeRefusals, flowRefusals};
-ghost use Rattle.tables.specs.Inner.{zeroOnDiagonal, SizedFlow};
+ghost use Rattle.tables.specs.FlowTable.{byteRefusals, flowSizeRefusals, flowRefusals, zeroOnDiagonal, SizedFlow};
 ghost use Rattle.refusals.specs.Inner.{Measured};
 
 // What a call says of its other buffers, if it has none.

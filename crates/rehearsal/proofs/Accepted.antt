@@ -18,8 +18,8 @@ use Rattle.tables.proofs.Accepted.{sheet-numbered, tables-passed}
 use Rattle.tables.proofs.Sounds.{entities-fit}
 use Rattle.transfers.specs.declared.Transfer.{Transfer}
 use Rattle.transfers.specs.declared.Tally.{Tally}
-use Rattle.transfers.specs.Rehearse.{tallyRefusals}
-use Rattle.rehearsal.specs.Calls.{rehearsalShort, rehearseRefusals, recordRefusals}
+use Rattle.transfers.specs.Rehearse.{tallyRefusals, rehearsalShort}
+use Rattle.rehearsal.specs.Calls.{rehearseRefusals, recordRefusals}
 use Rattle.transfers.specs.Transfers.{flatBytes}
 use Rattle.transfers.specs.Demand3.{TwoLendings}
 use Rattle.rehearsal.specs.Demand3.{Ready}
@@ -31,7 +31,7 @@ pub record Room (l : Lent) (marks : List ℕ) : Type 0 where
   pub room : entities (l .counts) ≤ length marks
 
 module _ (l : Lent) (marks verdicts : List ℕ) (long : Bool) where
-  pub sheet-room : firstRefusal (sheetRefusals (rehearsalShort marks verdicts) long l) ≡ 0 → Room l marks
+  pub sheet-room : firstRefusal (sheetRefusals (rehearsalShort (length marks) (length verdicts)) long l) ≡ 0 → Room l marks
   unfolding rehearsalShort
   sheet-room none =
       let p = tables-passed _ _ l none in
@@ -40,13 +40,13 @@ module _ (l : Lent) (marks verdicts : List ℕ) (long : Bool) where
       record { few = few; room = omega arith }
 
   -- whatever else the call refuses
-  pub passed-room : (own : List Refusal) → firstRefusal (sheetRefusals (rehearsalShort marks verdicts) long l then own) ≡ 0 →
+  pub passed-room : (own : List Refusal) → firstRefusal (sheetRefusals (rehearsalShort (length marks) (length verdicts)) long l then own) ≡ 0 →
       Room l marks
   passed-room own none = sheet-room (passed-then _ own (sheet-numbered _ long l) none .0)
 
 -- ---- lengths are all that is looked at of marks and verdict bytes
 module _ {n x : ℕ} {marks marks′ verdicts verdicts′ : List ℕ} (two : TwoLendings n x marks marks′ verdicts verdicts′) (l : Lent) (t : Tally) where
-  same-short : rehearsalShort marks verdicts ≡ rehearsalShort marks′ verdicts′
+  same-short : rehearsalShort (length marks) (length verdicts) ≡ rehearsalShort (length marks′) (length verdicts′)
   unfolding rehearsalShort
   same-short = rw (two .starts .apart .same-length, two .same-verdict-length)
 
@@ -80,4 +80,4 @@ module _ (l : Lent) (ts : List Transfer) (marks verdicts : List ℕ) (t : Tally)
   unfolding recordRefusals
   records-pass ready fits =
       rw (le-ltb mostTransfers (length ts) fits)
-      (pass-then _ (tallyRefusals t) (sheet-numbered (rehearsalShort marks verdicts) false l) (ready .sheet) (ready .tally))
+      (pass-then _ (tallyRefusals t) (sheet-numbered (rehearsalShort (length marks) (length verdicts)) false l) (ready .sheet) (ready .tally))

@@ -8,17 +8,16 @@ use Rattle.answers.specs.Rows.{count}
 use Rattle.tables.specs.Sheet.{sheetIn}
 use Rattle.theory.proofs.Chains.{chain-flow, one-best}
 use Rattle.access.specs.Channel.{Channel}
-use Rattle.transfers.specs.Acts.{verdict, verdictBytes, plus, acted, after}
-use Rattle.transfers.specs.Demand3.{transferOf, chainTransfers, Alike, Reached}
+use Rattle.transfers.specs.Acts.{verdictByte, verdictBytes, plus, acted, after}
+use Rattle.transfers.specs.Demand3.{transferOf, chainTransfers, Alike, Reached, chainMoves}
 use Rattle.rehearsal.specs.Demand3.{RehearsesChain, RehearsesChainFlat}
 use Rattle.transfers.specs.Transfers.{flatTransfers, flatBytes}
 use Rattle.transfers.specs.Rehearse.{tally, newTally, Rehearsed, rehearsed, raised}
 use Rattle.rehearsal.specs.Calls.{RehearsesRecords}
 use Rattle.rehearsal.proofs.Determined.{rehearse-determined, rehearse-records-determined}
-use Rattle.transfers.proofs.Labels.{chainMoves}
 use Rattle.rehearsal.proofs.Entries.{threes-as-records}
 use Rattle.rehearsal.proofs.SameAnswers.{flat-alike, records-alike}
-use Rattle.rehearsal.proofs.ShownChain.{accepted-flat-reach, records-reach, flat-reach, label-reaches-flat}
+use Rattle.rehearsal.proofs.ShownChain.{accepted-records-reach, accepted-flat-reach, records-reach, flat-reach, label-reaches-records, label-reaches-flat}
 use Rattle.transfers.proofs.SmallNetwork.{marks, chain}
 use Rattle.rehearsal.proofs.SmallSheet.{sheet, sheet-best, 1-not-to-2}
 use Rattle.rehearsal.proofs.SmallCalls.{verdicts, lent-0, lent-1, ready, result, call, call-flat, unchanged, refused}
@@ -57,13 +56,20 @@ reached-flat = flat-reach sheet sheet-best newTally lent-0 (ready 7 0 9) (call-f
 
 reached-accepted : Reached 2 1 (result 7 0 9) (result 9 0 5)
 unfolding result rehearsed
-reached-accepted = accepted-flat-reach sheet sheet-best newTally lent-0 refl (call-flat 7 0 9) (call-flat 9 0 5)
+reached-accepted = accepted-records-reach sheet sheet-best newTally lent-0 refl (call 7 0 9) (call 9 0 5)
+
+reached-accepted-flat : Reached 2 1 (result 7 0 9) (result 9 0 5)
+unfolding result rehearsed
+reached-accepted-flat = accepted-flat-reach sheet sheet-best newTally lent-0 refl (call-flat 7 0 9) (call-flat 9 0 5)
 
 -- the label alone leads to that chain
-shown : label-reaches-flat sheet newTally lent-0 (ready 7 0 9) (chain-flow (sheet-best .chain)) .0 ≡ chain
-shown = one-best (label-reaches-flat sheet newTally lent-0 (ready 7 0 9) (chain-flow (sheet-best .chain)) .1) sheet-best
+shown : label-reaches-records sheet newTally lent-0 (ready 7 0 9) (chain-flow (sheet-best .chain)) .0 ≡ chain
+shown = one-best (label-reaches-records sheet newTally lent-0 (ready 7 0 9) (chain-flow (sheet-best .chain)) .1) sheet-best
+
+shown-flat : label-reaches-flat sheet newTally lent-0 (ready 7 0 9) (chain-flow (sheet-best .chain)) .0 ≡ chain
+shown-flat = one-best (label-reaches-flat sheet newTally lent-0 (ready 7 0 9) (chain-flow (sheet-best .chain)) .1) sheet-best
 
 -- they end with 7 and 9 at 1, and the tally has counted two
 ends : (getD (result 7 0 9 .marks) 1 0 ≡ 7) × (getD (result 9 0 5 .marks) 1 0 ≡ 9) × (result 7 0 9 .tally ≡ tally 2 0 0)
-unfolding result rehearsed chainMoves after acted plus marks raised verdictBytes verdict count
+unfolding result rehearsed chainMoves after acted plus marks raised verdictBytes verdictByte count
 ends = (refl, refl, refl)

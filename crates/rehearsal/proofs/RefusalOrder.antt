@@ -8,8 +8,8 @@ use Rattle.tables.specs.Sheet.{Lent, lent, counts}
 use Rattle.tables.specs.Refusals.{sizeRefusals, usedRefusals, sheetRefusals}
 use Rattle.transfers.specs.declared.Tally.{Tally}
 use Rattle.transfers.specs.Transfers.{transfer}
-use Rattle.transfers.specs.Rehearse.{tally, newTally, tallyRefusals}
-use Rattle.rehearsal.specs.Calls.{rehearsalShort, rehearseRefusals, recordRefusals}
+use Rattle.transfers.specs.Rehearse.{tally, newTally, tallyRefusals, rehearsalShort}
+use Rattle.rehearsal.specs.Calls.{rehearseRefusals, recordRefusals}
 
 -- tables that are in order, and tables with a mode of 9
 sheet : Lent

@@ -15,15 +15,15 @@ use Rattle.transfers.specs.declared.Transfer.{Transfer}
 use Rattle.transfers.specs.declared.Tally.{Tally}
 use Rattle.transfers.specs.Acts.{verdictBytes, after, AllCome, none}
 use Rattle.transfers.specs.Transfers.{flatTransfers, Comes}
-use Rattle.transfers.specs.Rehearse.{notRehearsed, raised, rehearsed, Rehearses}
+use Rattle.transfers.specs.Rehearse.{notRehearsed, raised, rehearsed, Rehearses, rehearsalShort}
 use Rattle.transfers.proofs.Acting.{by-table}
 use Rattle.steps.specs.declared.Progress.{Progress}
 use Rattle.steps.specs.Inner.{State, stateOf}
 use Rattle.runs.specs.declared.Tallied.{Tallied}
-use Rattle.runs.specs.Inner.{Ran, finished, Begun, testedRefusals, fewLent, flatRefusals, countedRefusals}
+use Rattle.runs.specs.Inner.{Ran, finished, Begun, testedRefusals, flatRefusals, countedRefusals}
 use Rattle.runs.proofs.Started.{started-all, started-none}
 use Rattle.runs.proofs.Running.{ran-answer, flat-started}
-use Rattle.rehearsal.specs.Calls.{rehearsalShort, rehearseRefusals, recordRefusals, RehearsesFlat, RehearsesRecords, rehearsedTo}
+use Rattle.rehearsal.specs.Calls.{rehearseRefusals, recordRefusals, RehearsesFlat, RehearsesRecords, rehearsedTo}
 
 no-acts : {T : Type 0} {comes : T → Act → Type 0} {acts : List Act} → AllCome comes [] acts → acts ≡ []
 no-acts none = refl
@@ -58,13 +58,13 @@ pub records-outcome : (l : Lent) (ts : List Transfer) (marks verdicts : List ℕ
     Begun (countedRefusals (length ts) (length marks) (length verdicts)) l t (length ts) channels₀ channels p₀ → (s : State) (r : Tallied) →
     Ran (l .counts) channels ts (p₀ .count) (stateOf marks verdicts p₀) s → r ≡ finished (s .progress) t →
     RehearsesRecords l ts marks verdicts t (rehearsedTo r (s .marks) (s .verdicts))
-unfolding recordRefusals countedRefusals fewLent rehearsalShort
+unfolding recordRefusals countedRefusals rehearsalShort
 records-outcome l ts marks verdicts t channels₀ channels p₀ started s r ran e = rw e (all-made ts marks verdicts started ran)
 
 pub flat-outcome : (l : Lent) (transfers marks verdicts : List ℕ) (t : Tally) {channels₀ channels : List ℕ} {p₀ : Progress} →
     Begun (flatRefusals (length transfers) (length marks) (length verdicts)) l t (length transfers / 3) channels₀ channels p₀ →
     {s : State} {r : Tallied} → Ran (l .counts) channels (flatTransfers transfers) (p₀ .count) (stateOf marks verdicts p₀) s →
     r ≡ finished (s .progress) t → RehearsesFlat l transfers marks verdicts t (rehearsedTo r (s .marks) (s .verdicts))
-unfolding rehearseRefusals flatRefusals testedRefusals fewLent rehearsalShort
+unfolding rehearseRefusals flatRefusals testedRefusals rehearsalShort
 flat-outcome l transfers marks verdicts t started ran e =
     rw e (all-made (flatTransfers transfers) marks verdicts (flat-started l transfers marks verdicts t started) ran)

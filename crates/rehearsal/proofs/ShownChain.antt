@@ -9,13 +9,14 @@ use lib.ListN.{length}
 use Rattle.answers.specs.Call.{firstRefusal}
 use Rattle.tables.specs.Sheet.{Lent, sheetOf, sheetIn, entities}
 use Rattle.theory.specs.Flow.{Flow}
+use Rattle.theory.specs.Order.{InLabel}
 use Rattle.theory.specs.Chain.{Best}
 use Rattle.theory.proofs.Flows.{flow-inside}
 use Rattle.theory.proofs.Distinct.{distinct-fits}
 use Rattle.theory.proofs.Chains.{chain-flow, chain-inside, shortest-distinct}
 use Rattle.answers.proofs.Calls.{answered}
-use Rattle.access.specs.Channel.{Channel}
-use Rattle.access.proofs.Channels.{TwoSided, two-sided, channel-inside}
+use Rattle.access.specs.Channel.{Channel, TwoSided}
+use Rattle.access.proofs.Channels.{two-sided, channel-inside}
 use Rattle.access.proofs.Decided.{sheet-chain-exists}
 use Rattle.transfers.specs.declared.Tally.{Tally}
 use Rattle.transfers.specs.Rehearse.{Rehearsed}
@@ -75,7 +76,7 @@ module _ (l : Lent) {x y : ℕ} {chain : List ℕ} (best : Best (Channel (sheetI
 -- "If y's label holds x" there is a shown chain, and it is so of its transfers
 module _ (l : Lent) {marks marks′ verdicts verdicts′ : List ℕ} (t : Tally) {x y : ℕ}
     (two : TwoLendings (entities (l .counts)) x marks marks′ verdicts verdicts′) (ready : Ready l marks verdicts t)
-    (holds : Flow (Channel (sheetIn l)) x y) where
+    (holds : InLabel (Flow (Channel (sheetIn l))) y x) where
   pub label-reaches-records : (chain : List ℕ) × Best (Channel (sheetIn l)) x y chain × ((r r′ : Rehearsed) →
       RehearsesChain l chain marks verdicts t r → RehearsesChain l chain marks′ verdicts′ t r′ → Reached (length chain - 1) y r r′)
   label-reaches-records =

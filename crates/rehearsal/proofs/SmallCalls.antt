@@ -10,11 +10,10 @@ use Rattle.tables.specs.Sheet.{sheetOf, entities}
 use Rattle.tables.specs.Refusals.{sizeRefusals, usedRefusals, sheetRefusals}
 use Rattle.answers.proofs.Calls.{accept, refuse}
 use Rattle.access.proofs.Channels.{two-sided}
-use Rattle.transfers.specs.Demand3.{chainTransfers, TwoLendings}
+use Rattle.transfers.specs.Demand3.{chainTransfers, TwoLendings, chainMoves}
 use Rattle.rehearsal.specs.Demand3.{RehearsesChain, RehearsesChainFlat, Ready}
-use Rattle.transfers.specs.Rehearse.{newTally, Rehearsed, rehearsed, tallyRefusals}
-use Rattle.rehearsal.specs.Calls.{rehearsalShort, rehearseRefusals, recordRefusals, RehearsesFlat}
-use Rattle.transfers.proofs.Labels.{chainMoves}
+use Rattle.transfers.specs.Rehearse.{newTally, Rehearsed, rehearsed, tallyRefusals, rehearsalShort}
+use Rattle.rehearsal.specs.Calls.{rehearseRefusals, recordRefusals, RehearsesFlat}
 use Rattle.transfers.proofs.Chains.{chain-comes}
 use Rattle.rehearsal.proofs.Entries.{records-as-flat}
 use Rattle.transfers.proofs.SmallNetwork.{chain, marks, starts-0, starts-1}

@@ -1,14 +1,14 @@
 -- The calls of a rehearsal: their refusals, and their contracts.
 use Prim.Native.Nat.{ℕ, _%_}
-use mathlib.Core.Bool.{Bool, not, _||_}
+use mathlib.Core.Bool.{not}
 use mathlib.Core.List.{List, [], _∷_}
 use lib.Dec.{eqb}
 use lib.ListN.{length}
 use denote.Ref.{now}
 use Rattle.answers.specs.declared.Told.{Told}
-use Rattle.answers.specs.Sizes.{mostTransfers, mostTransferBytes, leastMarks, leastVerdicts}
+use Rattle.answers.specs.Sizes.{mostTransfers, mostTransferBytes}
 use Rattle.answers.specs.Call.{Refusal, _if_, _then_, Outcome, Loan}
-use Rattle.answers.specs.Rows.{shorter, exceeds}
+use Rattle.answers.specs.Rows.{exceeds}
 use Rattle.tables.specs.declared.Counts.{Counts}
 use Rattle.tables.specs.Sheet.{Lent, lent, sheetIn}
 use Rattle.tables.specs.Refusals.{sheetRefusals}
@@ -16,24 +16,20 @@ use Rattle.access.specs.Channel.{Channel}
 use Rattle.transfers.specs.declared.Transfer.{Transfer}
 use Rattle.transfers.specs.declared.Tally.{Tally}
 use Rattle.transfers.specs.Transfers.{flatTransfers, Comes}
-use Rattle.transfers.specs.Rehearse.{Rehearsed, notRehearsed, Rehearses, tallyRefusals}
+use Rattle.transfers.specs.Rehearse.{Rehearsed, notRehearsed, Rehearses, tallyRefusals, rehearsalShort}
 use Rattle.runs.specs.declared.Tallied.{Tallied}
-
--- "1 | a lent buffer is shorter than its least length": the marks or the verdict bytes
-unfoldable pub rehearsalShort : List ℕ → List ℕ → Bool
-rehearsalShort marks verdicts = shorter marks leastMarks || shorter verdicts leastVerdicts
 
 -- "5 above 12,288 bytes"; "then 10, 15, 17 or the call's own"; "15 | a flat transfer list whose length is not a multiple of 3"
 unfoldable pub rehearseRefusals : Lent → List ℕ → List ℕ → List ℕ → Tally → List Refusal
 rehearseRefusals l transfers marks verdicts t =
-    sheetRefusals (rehearsalShort marks verdicts) (exceeds (length transfers) mostTransferBytes) l
+    sheetRefusals (rehearsalShort (length marks) (length verdicts)) (exceeds (length transfers) mostTransferBytes) l
     then ((15 if not (eqb (length transfers % 3) 0)) ∷ [])
     then tallyRefusals t
 
 -- "transfers in a rehearsal | 4,096"
 unfoldable pub recordRefusals : Lent → List Transfer → List ℕ → List ℕ → Tally → List Refusal
 recordRefusals l transfers marks verdicts t =
-    sheetRefusals (rehearsalShort marks verdicts) (exceeds (length transfers) mostTransfers) l then tallyRefusals t
+    sheetRefusals (rehearsalShort (length marks) (length verdicts)) (exceeds (length transfers) mostTransfers) l then tallyRefusals t
 
 -- the contract of `rehearse`
 abbrev pub RehearsesFlat : Lent → List ℕ → List ℕ → List ℕ → Tally → Rehearsed → Type 0

@@ -10,11 +10,11 @@ use Rattle.answers.specs.Call.{told}
 use Rattle.answers.specs.Rows.{Bytes}
 use Rattle.answers.proofs.Marks.{mark-bit}
 use Rattle.answers.proofs.Written.{count-within}
-use Rattle.tables.specs.Inner.{SoundFlow}
 use Rattle.theory.specs.Order.{ClassName, Greatest, LabelSize}
 use Rattle.labels.specs.Labelled.{Labelled}
 use Rattle.labels.specs.Inner.{Asked, Labelling}
 use Rattle.output.specs.Output.{EntityLine}
+use Rattle.tables.specs.FlowTable.{SoundFlow}
 
 module _ (n : ℕ) (table : List ℕ) (x : ℕ) (a : SoundFlow n table) (h : x < n) where
   -- it can be asked about

@@ -24,12 +24,11 @@ use Rattle.text.proofs.RoundTrip.{accepted-sound}
 use Rattle.text.proofs.RefusedLines.{refused-line-fits}
 use Rattle.sheet.specs.Read.{ReadResult, readResult, Reads}
 use Rattle.sheet.specs.RoundTrip.{tablesIn, sheetRead}
-use Rattle.reader.specs.Fill.{Tables, Long}
+use Rattle.reader.specs.Fill.{Tables, LongTables}
 use Rattle.sheet.proofs.ReadDone.{lengths-pass, ReadDone}
 use Rattle.sheet.proofs.Calls.{sheet-back}
 use Rattle.access.specs.Channel.{Channel}
 use Rattle.flow.specs.Fill.{fillRefusals, FlowFilled, Fills}
-use Rattle.tables.specs.Inner.{SoundFlow}
 use Rattle.flow.proofs.Filled.{filled-agrees}
 use Rattle.flow.proofs.Unrefused.{filled-accepted}
 use Rattle.output.specs.Output.{EntityLines, VerdictLine, SheetLines, refusalLine, refusal, sheet-lines, Output}
@@ -38,6 +37,7 @@ use Rattle.report.specs.Inner.{PutLine, PutOutput, Printable}
 use Rattle.output.proofs.LineLaws.{lines-agree}
 use Rattle.report.proofs.VerdictLines.{verdict-used}
 use Rattle.report.proofs.Sizes.{output-fits}
+use Rattle.tables.specs.FlowTable.{SoundFlow}
 
 -- ---- the flow table of an accepted sheet
 module _ (l : Lent) (count : ℕ) (separations : List ℕ) (p : Printable l count separations) (before table : List ℕ) (answer : ℕ) (room : leastFlow ≤ length before) (call : Fills l before (answer, table)) where
@@ -70,7 +70,7 @@ module _ (l : Lent) (count : ℕ) (separations : List ℕ) (p : Printable l coun
       }
 
 -- ---- what was read
-module _ (text : List ℕ) (lent : Tables) (long : Long lent) (result : ReadResult) (r : Reads text lent result) where
+module _ (text : List ℕ) (lent : Tables) (long : LongTables lent) (result : ReadResult) (r : Reads text lent result) where
   pub is-refused : result .reading .answer ≢ 0 → readText text ≡ refused (result .reading .answer) (result .reading .line)
   unfolding readResult
   is-refused some = go (readText text) (r .done (lengths-pass lent long))
@@ -137,3 +137,8 @@ size-within text before r call = go (ℕ-discrete (firstRefusal (reportRefusals 
         let room : leastOutput ≤ length before = ltb-false _ _ (passed 1 _ _ tt e .0) in
         omega (arith, ap (λ (x : Told × List ℕ). x .0 .value) (d .written), output-fits text (d .printed) (d .output))
     go (no some) = rw (call .refusal some) (omega arith)
+
+-- only the length of the buffer is judged
+pub report-unjudged : (out out′ : List ℕ) → length out ≡ length out′ → reportRefusals out ≡ reportRefusals out′
+unfolding reportRefusals
+report-unjudged out out′ e = rw e

@@ -21,7 +21,7 @@ sheet-fits : {t : Sheet} {out : List ℕ} → Sound t → SheetLines t out → l
 sheet-fits {t} s l =
     rw (l .whole)
     (simp length-append
-    (omega (arith, lines-long (l .each), line-long (l .verdict-line), line-short t (s .subjects-fit) (l .verdict), s .subjects-fit, s .objects-fit)))
+    (omega (arith, lines-long (l .each), line-long (l .verdict-line), line-short t (s .counts-fit .subjects) (l .verdict), s .counts-fit .subjects, s .counts-fit .objects)))
 
 print-fits : {r : Read} {out : List ℕ} → ((t : Sheet) → r ≡ accepted t → Sound t) → Printed r out → length out ≤ leastOutput
 print-fits sound (refusal {n = n} {line = line} e) = rw (e, refusal-long n line) (omega arith)

@@ -16,7 +16,7 @@ use Rattle.tables.proofs.Accepted.{sheet-numbered, tables-pass, separations-pas
 use Rattle.access.specs.Channel.{Channel}
 use Rattle.sheet.proofs.Calls.{used-part}
 use Rattle.separations.specs.declared.Judged.{Judged}
-use Rattle.separations.specs.Verdict.{FirstBroken, Verdict, hold as holds, broken as breaks, Finding}
+use Rattle.separations.specs.Judgement.{FirstBroken, Judgement, hold as holds, broken as breaks, Finding}
 use Rattle.verdict.specs.Judge.{judgeRefusals, Judges}
 use Rattle.verdict.proofs.Findings.{finding, holding}
 use Rattle.access.proofs.Longest.{at-most-97}
@@ -40,7 +40,7 @@ module _ (l : Lent) (count : ℕ) (separations chain : List ℕ) (j : Judged) (a
     found : Finding (Channel (sheetOf l count separations)) count separations chain j after
     found = go (call .done judged-on)
       where
-        go : Verdict (Channel (sheetOf l count separations)) count separations chain (j, after) → Finding (Channel (sheetOf l count separations)) count separations chain j after
+        go : Judgement (Channel (sheetOf l count separations)) count separations chain (j, after) → Finding (Channel (sheetOf l count separations)) count separations chain j after
         go (holds all e) = absurd (some (ap (λ (r : Judged × List ℕ). r .0 .answer) e))
         go (breaks i k f b e) = finding l count separations chain j after call (ap (λ (r : Judged × List ℕ). r .0 .answer) e)
 
@@ -49,7 +49,7 @@ module _ (l : Lent) (count : ℕ) (separations chain : List ℕ) (j : Judged) (a
     unfolding sheetOf
     broken-small = (
       omega (arith, found .first .below, p .listed .few),
-      omega (arith, found .counted, at-most-97 (sheetOf l count separations) (p .sized .subjects) _ _ _ (found .best)),
+      omega (arith, found .counted, at-most-97 (sheetOf l count separations) (p .sized .counts-fit .subjects) _ _ _ (found .best)),
     )
 
     -- and its chain is in the buffer

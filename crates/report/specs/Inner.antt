@@ -4,11 +4,12 @@ use mathlib.Core.List.{List}
 use lib.ListN.{length}
 use Rattle.answers.specs.Sizes.{leastSeparations}
 use Rattle.tables.specs.Sheet.{Lent, entities, sheetOf}
-use Rattle.tables.specs.Inner.{Sized, Listed, SoundFlow}
 use Rattle.digits.specs.Line.{lineOf}
 use Rattle.digits.specs.Inner.{Put}
 use Rattle.access.specs.Channel.{Channel}
 use Rattle.output.specs.Output.{VerdictLine, SheetLines}
+use Rattle.tables.specs.Refusals.{Sized, Listed}
+use Rattle.tables.specs.FlowTable.{SoundFlow}
 
 -- the line of bytes that are right is written
 pub record PutLine (Right : List ℕ → Type 0) (at : ℕ) (before : List ℕ) (next : ℕ) (after : List ℕ) : Type 0 where

@@ -10,10 +10,10 @@ ghost use Rattle.tables.specs.Sheet.{lent};
 ghost use Rattle.theory.specs.Order.{LabelSize};
 ghost use Rattle.digits.specs.Line.{lineOf};
 ghost use Rattle.digits.specs.Inner.{Put};
-ghost use Rattle.tables.specs.Inner.{SoundFlow};
 ghost use Rattle.output.specs.Output.{EntityLine, EntityLines, refusalLine};
 ghost use Rattle.report.specs.Report.{leastOutput, Reports};
 ghost use Rattle.report.specs.Inner.{PutLine, PutOutput, Describable, Printable, PutVerdict, PutSheet};
+ghost use Rattle.tables.specs.FlowTable.{SoundFlow};
 
 pub const LEAST_OUTPUT: usize = 1435;
 

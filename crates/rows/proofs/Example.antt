@@ -5,10 +5,10 @@ use mathlib.Core.List.{List, [], _∷_}
 use native.Mathlib.Omega.{arith}
 use lib.Dec.{lit<}
 use Rattle.answers.specs.Rows.{at, Mark, one, none, Marked, Bytes, over}
-use Rattle.theory.proofs.Flows.{Has, Inside}
 use Rattle.rows.specs.Written.{FlowTable}
 use Rattle.theory.proofs.Filled.{bytes-to, bytes-from}
 use Rattle.rows.proofs.Relations.{table-agrees}
+use Rattle.theory.specs.Laws.{Contains, Inside}
 
 data Hop : ℕ → ℕ → Type 0 where
   hop02 : Hop 0 2
@@ -48,10 +48,10 @@ filled : Marked 3 Hop table
 filled = record { size = refl; bytes = marks }
 
 -- the pairs are the same, both ways
-to : Has Hop (Bytes 3 (over table buffer))
+to : Contains Hop (Bytes 3 (over table buffer))
 to = bytes-to filled buffer refl
 
-back : Has (Bytes 3 (over table buffer)) Hop
+back : Contains (Bytes 3 (over table buffer)) Hop
 back = bytes-from filled buffer refl inside
 
 -- so what is written for the table's bytes is written for the relation

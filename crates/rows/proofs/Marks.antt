@@ -9,7 +9,7 @@ use lib.Seq.{getD-set-same, getD-set-other}
 use Rattle.answers.specs.Rows.{Mark, one, none}
 use Rattle.answers.proofs.Marks.{mark-agrees}
 use Rattle.rows.specs.Written.{FlowRow}
-use Rattle.rows.specs.Search.{Among, Reached, MarksBefore}
+use Rattle.rows.specs.Search.{Among, SearchReached, MarksBefore}
 
 pub marks-none : (n : ℕ) (order : List ℕ) → MarksBefore 0 n order (replicate n 0)
 marks-none n order =
@@ -39,6 +39,6 @@ module _ {n k : ℕ} {order row : List ℕ} (r : MarksBefore k n order row) (ins
   unfolding row′
   marks-more = record { size = simp length-set (r .size); bytes = λ y h. one-more y h (ℕ-discrete y (getD order k 0)) }
 
-pub marks-flow : {ch : ℕ → ℕ → Type 0} {n x tail : ℕ} {order row : List ℕ} → Reached ch n x order tail → MarksBefore tail n order row →
+pub marks-flow : {ch : ℕ → ℕ → Type 0} {n x tail : ℕ} {order row : List ℕ} → SearchReached ch n x order tail → MarksBefore tail n order row →
     FlowRow n ch x row
 marks-flow r m = record { size = m .size; bytes = λ y h. mark-agrees (r .flows y) (r .all y) (m .bytes y h) }

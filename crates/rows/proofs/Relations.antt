@@ -2,11 +2,12 @@
 use Prim.Native.Nat.{ℕ}
 use mathlib.Core.List.{List}
 use Rattle.answers.proofs.Marks.{mark-agrees}
-use Rattle.theory.proofs.Flows.{Has, flow-more}
+use Rattle.theory.proofs.Flows.{flow-more}
 use Rattle.rows.specs.Written.{FlowRow, FlowTable}
+use Rattle.theory.specs.Laws.{Contains}
 
 -- ---- what is promised of one relation holds of another with the same pairs
-module _ {ch ch′ : ℕ → ℕ → Type 0} (to : Has ch′ ch) (back : Has ch ch′) where
+module _ {ch ch′ : ℕ → ℕ → Type 0} (to : Contains ch′ ch) (back : Contains ch ch′) where
   pub row-agrees : {n x : ℕ} {row : List ℕ} → FlowRow n ch x row → FlowRow n ch′ x row
   row-agrees {x = x} r = record { size = r .size; bytes = λ y h. mark-agrees (flow-more to x y) (flow-more back x y) (r .bytes y h) }
 

@@ -7,8 +7,9 @@ use native.Mathlib.Decide.{decLt}
 use native.Mathlib.Omega.{arith}
 use lib.ListN.{getD}
 use Rattle.theory.specs.Flow.{Flow, here, step}
-use Rattle.theory.proofs.Flows.{Inside, flow-closed}
-use Rattle.rows.specs.Search.{Among, Arranged, Begun, Spread, Reached}
+use Rattle.theory.proofs.Flows.{flow-closed}
+use Rattle.rows.specs.Search.{Among, Arranged, SearchBegun, Spread, SearchReached}
+use Rattle.theory.specs.Laws.{Inside}
 
 -- those before tail are reached, and with those before head all that they have a channel to
 pub record Searching (ch : ℕ → ℕ → Type 0) (n x : ℕ) (order : List ℕ) (head tail : ℕ) : Type 0 where
@@ -19,7 +20,7 @@ pub record Searching (ch : ℕ → ℕ → Type 0) (n x : ℕ) (order : List ℕ
   pub goes : head ≤ tail
   pub ends : tail ≤ n
 
-pub searching-first : (ch : ℕ → ℕ → Type 0) {n x : ℕ} {order : List ℕ} → x < n → Begun n x order → Searching ch n x order 0 1
+pub searching-first : (ch : ℕ → ℕ → Type 0) {n x : ℕ} {order : List ℕ} → x < n → SearchBegun n x order → Searching ch n x order 0 1
 searching-first ch {n} {x} {order} inside b =
     record {
       arranged = b .arranged;
@@ -68,7 +69,7 @@ module _ {ch : ℕ → ℕ → Type 0} {n x head tail : ℕ} {order : List ℕ} 
     onward : {a : ℕ} (p : Among order tail a) (b : ℕ) → ch a b → Among order tail b
     onward p b c = s .closed (p .place) (omega (arith, p .low)) b (rw (p .there) c)
 
-    pub searching-done : Reached ch n x order tail
+    pub searching-done : SearchReached ch n x order tail
     searching-done =
         record {
           arranged = s .arranged;

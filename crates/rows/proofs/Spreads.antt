@@ -8,7 +8,7 @@ use native.Mathlib.Omega.{arith}
 use lib.ListN.{length, getD, set, length-set}
 use lib.Seq.{getD-set-same, getD-set-other}
 use borrow.Author.Count.{below-more}
-use Rattle.rows.specs.Search.{Among, Arranged, Begun, Spread}
+use Rattle.rows.specs.Search.{Among, Arranged, SearchBegun, Spread}
 
 -- ---- the entities at i and at j change places
 abbrev pub swapped : List ℕ → ℕ → ℕ → List ℕ
@@ -65,11 +65,11 @@ arranged-first room own =
     record { room = room; entity = λ k h. rw (own k h) h; stands = λ y h. record { place = y; low = h; there = own y h } }
 
 pub begun-first : {n x : ℕ} (order : List ℕ) → x < n → n ≤ length order → ((k : ℕ) → k < n → getD order k 0 ≡ k) →
-    Begun n x (set (set order x 0) 0 x)
+    SearchBegun n x (set (set order x 0) 0 x)
 begun-first {n} {x} order inside room own =
     let some : 0 < n = omega arith in
     let arranged : Arranged n order = arranged-first room own in
-    let begun : Begun n x (swapped order x 0) =
+    let begun : SearchBegun n x (swapped order x 0) =
     record { arranged = arranged-swapped arranged inside some; first = swapped-second order x 0 (omega arith) ∙ own x inside } in
     rw (own x inside, own 0 some) at begun
 

@@ -19,7 +19,7 @@ pub record Arranged (n : ℕ) (order : List ℕ) : Type 0 where
   pub stands : (y : ℕ) → y < n → Among order n y
 
 -- the same, with x first
-pub record Begun (n x : ℕ) (order : List ℕ) : Type 0 where
+pub record SearchBegun (n x : ℕ) (order : List ℕ) : Type 0 where
   pub arranged : Arranged n order
   pub first : getD order 0 0 ≡ x
 
@@ -33,7 +33,7 @@ pub record Spread (ch : ℕ → ℕ → Type 0) (n u limit : ℕ) (order order�
   pub ends : tail′ ≤ limit
 
 -- before tail stand exactly those that x flows to
-pub record Reached (ch : ℕ → ℕ → Type 0) (n x : ℕ) (order : List ℕ) (tail : ℕ) : Type 0 where
+pub record SearchReached (ch : ℕ → ℕ → Type 0) (n x : ℕ) (order : List ℕ) (tail : ℕ) : Type 0 where
   pub arranged : Arranged n order
   pub ends : tail ≤ n
   pub flows : (y : ℕ) → Among order tail y → Flow ch x y

@@ -6,12 +6,12 @@ ghost use lib.ListN.{length, replicate};
 ghost use Rattle.answers.specs.Sizes.{mostEntities};
 ghost use Rattle.answers.specs.Rows.{Bytes};
 ghost use Rattle.rows.specs.Written.{FlowRow, FlowTable};
-ghost use Rattle.rows.specs.Search.{Arranged, Begun, Spread, Reached, MarksBefore};
+ghost use Rattle.rows.specs.Search.{Arranged, SearchBegun, Spread, SearchReached, MarksBefore};
 
 // Puts the entities below n one after the other, x and 0 with their places changed, so that x is first.
 fn arrange(n: usize, x: usize, order: &mut [usize])
     requires { ⌜ (x < n) × (n ≤ length (now order)) ⌝ }
-    ensures { λ _. ⌜ Begun n x (now (order .exit)) ⌝ }
+    ensures { λ _. ⌜ SearchBegun n x (now (order .exit)) ⌝ }
 {
     let mut k = 0;
     while k < n {
@@ -46,7 +46,7 @@ fn spread(channels: &[u8], n: usize, u: usize, tail: usize, order: &mut [usize])
 // how many there are.
 fn reach(channels: &[u8], n: usize, x: usize, order: &mut [usize]) -> usize
     requires { ⌜ (n * n ≤ length (now channels)) × (x < n) × (n ≤ length (now order)) ⌝ }
-    ensures { λ r. ⌜ Reached (Bytes n (now (channels .entry))) n x (now (order .exit)) r ⌝ }
+    ensures { λ r. ⌜ SearchReached (Bytes n (now (channels .entry))) n x (now (order .exit)) r ⌝ }
 {
     arrange(n, x, order);
     let mut head = 0;

@@ -19,7 +19,7 @@ use Rattle.transfers.specs.declared.Act.{Act}
 use Rattle.transfers.specs.declared.Transfer.{Transfer}
 use Rattle.transfers.specs.declared.Tally.{Tally}
 use Rattle.steps.specs.declared.Progress.{Progress}
-use Rattle.transfers.specs.Acts.{verdict, verdictBytes, acted, after, AllCome, none, next}
+use Rattle.transfers.specs.Acts.{verdictByte, verdictBytes, acted, after, AllCome, none, next}
 use Rattle.transfers.specs.Transfers.{flatTransfers}
 use Rattle.transfers.specs.Rehearse.{mostTallied}
 use Rattle.steps.specs.Inner.{State, stateOf, noted, Steppable, Stepped}
@@ -34,10 +34,10 @@ unfolding after
 after-more [] act marks = refl
 after-more (t ∷ acts) act marks = after-more acts act (acted t marks)
 
-bytes-more : (acts : List Act) (act : Act) → verdictBytes (acts ++ (act ∷ [])) ≡ verdictBytes acts ++ (verdict act ∷ [])
+bytes-more : (acts : List Act) (act : Act) → verdictBytes (acts ++ (act ∷ [])) ≡ verdictBytes acts ++ (verdictByte act ∷ [])
 unfolding verdictBytes
 bytes-more [] act = refl
-bytes-more (t ∷ acts) act = ap (λ bytes. verdict t ∷ bytes) (bytes-more acts act)
+bytes-more (t ∷ acts) act = ap (λ bytes. verdictByte t ∷ bytes) (bytes-more acts act)
 
 come-more : {T : Type 0} {comes : T → Act → Type 0} {ts : List T} {acts : List Act} {t : T} {act : Act} →
     AllCome comes ts acts → comes t act → AllCome comes (ts ++ (t ∷ [])) (acts ++ (act ∷ []))
@@ -79,14 +79,14 @@ module _ (c : Counts) (channels : List ℕ) (ts : List Transfer) (s₀ : State) 
   ran-more d k s s′ inside room r made =
       let size = ran-bytes r (omega arith) in
       let bytes = bytes-more (r .acts) (made .act) in
-      let counted : (v : ℕ) → count v (verdictBytes (r .acts ++ (made .act ∷ []))) ≡ count v (verdictBytes (r .acts)) + cond (eqb (verdict (made .act)) v) 1 0 =
-      λ v. ap (count v) bytes ∙ count-more v (verdictBytes (r .acts)) (verdict (made .act)) in
+      let counted : (v : ℕ) → count v (verdictBytes (r .acts ++ (made .act ∷ []))) ≡ count v (verdictBytes (r .acts)) + cond (eqb (verdictByte (made .act)) v) 1 0 =
+      λ v. ap (count v) bytes ∙ count-more v (verdictBytes (r .acts)) (verdictByte (made .act)) in
       record {
         acts = r .acts ++ (made .act ∷ []);
         come = rw (add-one k, take-suc ts k d inside) (come-more (r .come) (made .comes));
         marks-are = made .marks-are ∙ ap (acted (made .act)) (r .marks-are) ∙ sym (after-more (r .acts) (made .act) (s₀ .marks));
         verdicts-are =
-            made .verdicts-are ∙ rw (r .verdicts-are, bytes) (over-more (verdictBytes (r .acts)) (s₀ .verdicts) k (verdict (made .act)) size room);
+            made .verdicts-are ∙ rw (r .verdicts-are, bytes) (over-more (verdictBytes (r .acts)) (s₀ .verdicts) k (verdictByte (made .act)) size room);
         same-answer = ap (λ q. q .answer) (made .progress-is) ∙ r .same-answer;
         same-count = ap (λ q. q .count) (made .progress-is) ∙ r .same-count;
         applied-is = ap (λ q. q .applied) (made .progress-is) ∙ rw (r .applied-is, counted 0);
@@ -155,8 +155,8 @@ module _ {refusals : Lent → Tally → List Refusal} {l : Lent} {t : Tally} (ts
       let barred-is = ap (λ q. q .barred) e in (
         omega arith,
         record {
-          few-subjects = s .subjects;
-          few-objects = s .objects;
+          few-subjects = s .counts-fit .subjects;
+          few-objects = s .counts-fit .objects;
           table = filled-room (b .channels passes);
           marked = omega arith;
           place = omega arith;

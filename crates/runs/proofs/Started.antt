@@ -12,15 +12,14 @@ use Rattle.answers.specs.Sizes.{mostTransfers, leastMarks, leastVerdicts}
 use Rattle.answers.specs.Call.{Refusal, _if_, _then_, firstRefusal}
 use Rattle.answers.specs.Rows.{exceeds}
 use Rattle.tables.specs.Sheet.{Lent}
-use Rattle.tables.specs.Refusals.{sizeRefusals, usedRefusals, sheetRefusals}
-use Rattle.tables.specs.Inner.{Sized}
+use Rattle.tables.specs.Refusals.{sizeRefusals, usedRefusals, sheetRefusals, Sized}
 use Rattle.answers.proofs.Calls.{passed, by-both, passed-then}
 use Rattle.tables.proofs.Accepted.{sheet-numbered, tables-passed}
 use Rattle.answers.proofs.Joined.{neither}
 use Rattle.transfers.specs.declared.Tally.{Tally}
 use Rattle.steps.specs.declared.Progress.{Progress}
-use Rattle.transfers.specs.Rehearse.{mostTallied, tallyRefusals}
-use Rattle.runs.specs.Inner.{begun, Begun, testedRefusals, fewLent, flatRefusals, countedRefusals}
+use Rattle.transfers.specs.Rehearse.{mostTallied, tallyRefusals, rehearsalShort}
+use Rattle.runs.specs.Inner.{begun, Begun, testedRefusals, flatRefusals, countedRefusals}
 
 -- a tally that has room for a rehearsal's counts
 pub record Roomy (t : Tally) : Type 0 where
@@ -59,8 +58,8 @@ module _ (short long ragged : Bool) (l : Lent) (t : Tally) where
 -- ---- what passed
 -- whatever the list's size is tested by
 tested-cleared : (l : Lent) (transfers marks verdicts : ℕ) (long ragged : Bool) (t : Tally) → (long ≡ false → transfers ≤ mostTransfers) →
-    firstRefusal (testedRefusals (fewLent marks verdicts) long ragged l t) ≡ 0 → Cleared l transfers marks verdicts t
-unfolding testedRefusals fewLent
+    firstRefusal (testedRefusals (rehearsalShort marks verdicts) long ragged l t) ≡ 0 → Cleared l transfers marks verdicts t
+unfolding testedRefusals rehearsalShort
 tested-cleared l transfers marks verdicts long ragged t fits e =
     let p = passed-then _ _ (sheet-numbered _ long l) e in
     let s = tables-passed _ _ l (p .0) in
@@ -81,9 +80,9 @@ module _ (l : Lent) (marks verdicts : ℕ) (t : Tally) where
 
   -- a list of records is as a flat one of whole threes
   pub counted-tested : (records : ℕ) →
-      firstRefusal (testedRefusals (fewLent marks verdicts) (exceeds records mostTransfers) false l t)
+      firstRefusal (testedRefusals (rehearsalShort marks verdicts) (exceeds records mostTransfers) false l t)
       ≡ firstRefusal (countedRefusals records marks verdicts l t)
-  unfolding testedRefusals countedRefusals fewLent sheetRefusals sizeRefusals usedRefusals firstRefusal _then_
+  unfolding testedRefusals countedRefusals rehearsalShort sheetRefusals sizeRefusals usedRefusals firstRefusal _then_
   counted-tested records = refl
 
   pub counted-cleared : (records : ℕ) → firstRefusal (countedRefusals records marks verdicts l t) ≡ 0 → Cleared l records marks verdicts t

@@ -1,12 +1,12 @@
 -- How a rehearsal begins, goes on and ends. No promise: it only ties functions together.
 use Prim.Native.Nat.{ℕ, _+_, _*_, _%_, _≤_, _<_}
 use mathlib.Core.Path.{_≡_}
-use mathlib.Core.Bool.{Bool, cond, not, _||_}
+use mathlib.Core.Bool.{Bool, cond, not}
 use mathlib.Core.List.{List, [], _∷_}
-use lib.Dec.{eqb, ltb}
+use lib.Dec.{eqb}
 use lib.ListN.{length, take}
 use denote.Ref.{RefT, now}
-use Rattle.answers.specs.Sizes.{mostTransfers, mostTransferBytes, leastMarks, leastVerdicts}
+use Rattle.answers.specs.Sizes.{mostTransfers, mostTransferBytes}
 use Rattle.answers.specs.Call.{Refusal, _if_, _then_, firstRefusal, told}
 use Rattle.answers.specs.Rows.{Bytes, Filled, over, count, exceeds}
 use Rattle.tables.specs.declared.Counts.{Counts}
@@ -18,7 +18,7 @@ use Rattle.transfers.specs.declared.Transfer.{Transfer}
 use Rattle.transfers.specs.declared.Tally.{Tally}
 use Rattle.transfers.specs.Acts.{verdictBytes, after, AllCome}
 use Rattle.transfers.specs.Transfers.{transfer, Comes}
-use Rattle.transfers.specs.Rehearse.{tally, mostTallied, tallyRefusals}
+use Rattle.transfers.specs.Rehearse.{tally, mostTallied, tallyRefusals, rehearsalShort}
 use Rattle.steps.specs.declared.Progress.{Progress}
 use Rattle.steps.specs.Inner.{State, Steppable}
 use Rattle.runs.specs.declared.Tallied.{Tallied}
@@ -32,19 +32,15 @@ lentAt c assignment permission = lent c (now assignment) (now permission)
 unfoldable pub testedRefusals : Bool → Bool → Bool → Lent → Tally → List Refusal
 testedRefusals short long ragged l t = sheetRefusals short long l then ((15 if ragged) ∷ []) then tallyRefusals t
 
--- whether so many marks or so many verdict bytes are too few
-unfoldable pub fewLent : ℕ → ℕ → Bool
-fewLent marks verdicts = ltb marks leastMarks || ltb verdicts leastVerdicts
-
 -- of a rehearsal of so many flat bytes, with so many marks and verdict bytes lent
 unfoldable pub flatRefusals : (bytes marks verdicts : ℕ) → Lent → Tally → List Refusal
 flatRefusals bytes marks verdicts l t =
-    testedRefusals (fewLent marks verdicts) (exceeds bytes mostTransferBytes) (not (eqb (bytes % 3) 0)) l t
+    testedRefusals (rehearsalShort marks verdicts) (exceeds bytes mostTransferBytes) (not (eqb (bytes % 3) 0)) l t
 
 -- of a rehearsal of so many records
 unfoldable pub countedRefusals : (records marks verdicts : ℕ) → Lent → Tally → List Refusal
 countedRefusals records marks verdicts l t =
-    sheetRefusals (fewLent marks verdicts) (exceeds records mostTransfers) l then tallyRefusals t
+    sheetRefusals (rehearsalShort marks verdicts) (exceeds records mostTransfers) l then tallyRefusals t
 
 -- the progress: the refusal, and how many transfers will be made
 unfoldable pub begun : ℕ → ℕ → Progress

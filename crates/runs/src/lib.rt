@@ -10,9 +10,9 @@ ghost use lib.ListN.{length};
 ghost use Rattle.answers.specs.Sizes.{leastFlow};
 ghost use Rattle.answers.specs.Call.{firstRefusal};
 ghost use Rattle.transfers.specs.Transfers.{flatTransfers};
-ghost use Rattle.transfers.specs.Rehearse.{tallyRefusals};
+ghost use Rattle.transfers.specs.Rehearse.{tallyRefusals, rehearsalShort};
 ghost use Rattle.steps.specs.Inner.{state};
-ghost use Rattle.runs.specs.Inner.{lentAt, fewLent, testedRefusals, flatRefusals, countedRefusals, Begun, Runnable, Ran, Finishable, finished};
+ghost use Rattle.runs.specs.Inner.{lentAt, testedRefusals, flatRefusals, countedRefusals, Begun, Runnable, Ran, Finishable, finished};
 
 // What a rehearsal answers, with its tally by value.
 pub struct Tallied {
@@ -38,7 +38,7 @@ fn tally_refusal(tally: Tally) -> u8
 
 // Whether so many marks or so many verdict bytes are too few.
 fn few_lent(marks: usize, verdicts: usize) -> bool
-    ensures { λ r. ⌜ r ≡ fewLent marks verdicts ⌝ }
+    ensures { λ r. ⌜ r ≡ rehearsalShort marks verdicts ⌝ }
 {
     answers::either(marks < sizes::LEAST_MARKS, verdicts < sizes::LEAST_VERDICTS)
 }

@@ -17,7 +17,7 @@ use Rattle.frames.specs.Frame.{textOf}
 use Rattle.text.specs.Content.{present, assignAt, permitAt, separates, body, opened, closing, framesIn, writeSheet}
 use Rattle.text.proofs.RoundTrip.{written-fits}
 use Rattle.scribe.specs.declared.Pen.{Pen}
-use Rattle.scribe.specs.Put.{penAt, Puts, Room, Table, Ready, Written}
+use Rattle.scribe.specs.Put.{penAt, Puts, Room, Table, Scribable, Written}
 use Rattle.scribe.proofs.PutLaws.{puts-then, room-then, room-first, lines-few}
 
 -- ---- the parts of a sheet's frames
@@ -53,21 +53,21 @@ module _ (l : Lent) (count : ℕ) (separations : List ℕ) where
         length-append (permittedOf l) (separatedOf count separations),
       )
 
-  module _ {text : List ℕ} (ready : Ready l count separations text) where
+  module _ {text : List ℕ} (ready : Scribable l count separations text) where
     pub assignment-table : Table (l .counts .subjects) (l .counts .roles) (l .assignment)
     assignment-table =
         record {
-          rows-fit = omega (arith, ready .sized .subjects);
-          width-fits = omega (arith, ready .sized .roles);
-          used = product-within _ _ 48 48 _ (ready .sized .subjects) (ready .sized .roles) (ready .sized .assignment);
+          rows-fit = omega (arith, ready .sized .counts-fit .subjects);
+          width-fits = omega (arith, ready .sized .counts-fit .roles);
+          used = product-within _ _ 48 48 _ (ready .sized .counts-fit .subjects) (ready .sized .counts-fit .roles) (ready .sized .assignment);
         }
 
     pub permission-table : Table (l .counts .roles) (l .counts .objects) (l .permission)
     permission-table =
         record {
-          rows-fit = omega (arith, ready .sized .roles);
-          width-fits = omega (arith, ready .sized .objects);
-          used = product-within _ _ 48 64 _ (ready .sized .roles) (ready .sized .objects) (ready .sized .permission);
+          rows-fit = omega (arith, ready .sized .counts-fit .roles);
+          width-fits = omega (arith, ready .sized .counts-fit .objects);
+          used = product-within _ _ 48 64 _ (ready .sized .counts-fit .roles) (ready .sized .counts-fit .objects) (ready .sized .permission);
         }
 
     pub separations-room : 2 * count ≤ length separations

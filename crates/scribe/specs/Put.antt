@@ -8,11 +8,11 @@ use lib.Seq.{sets}
 use Rattle.answers.specs.Sizes.{leastSeparations, leastText}
 use Rattle.answers.specs.Rows.{over}
 use Rattle.tables.specs.Sheet.{Lent, Sheet, entities}
-use Rattle.tables.specs.Inner.{Sized, Listed}
 use Rattle.frames.specs.declared.Frame.{Frame}
 use Rattle.frames.specs.Frame.{textOf}
 use Rattle.text.specs.Content.{assignAt, permitAt, writeSheet}
 use Rattle.scribe.specs.declared.Pen.{Pen}
+use Rattle.tables.specs.Refusals.{Sized, Listed}
 
 abbrev pub penAt : ℕ → ℕ → Pen
 penAt at lines = record { at = at; lines = lines }
@@ -50,7 +50,7 @@ pub record Table (rows width : ℕ) (table : List ℕ) : Type 0 where
   pub used : rows * width ≤ length table
 
 -- what is to be written has passed every refusal, and the buffers have their least lengths
-pub record Ready (l : Lent) (count : ℕ) (separations text : List ℕ) : Type 0 where
+pub record Scribable (l : Lent) (count : ℕ) (separations text : List ℕ) : Type 0 where
   pub sized : Sized l
   pub listed : Listed (entities (l .counts)) count separations
   pub separations-long : leastSeparations ≤ length separations

@@ -10,7 +10,7 @@ ghost use Rattle.digits.specs.Inner.{Put};
 ghost use Rattle.frames.specs.declared.Frame.the-variants.{Header};
 ghost use Rattle.frames.specs.Frame.{frameBytes};
 ghost use Rattle.text.specs.Content.{present, separates, closing};
-ghost use Rattle.scribe.specs.Put.{penAt, Puts, Room, shown, frameAt, InRows, Table, Ready, Written};
+ghost use Rattle.scribe.specs.Put.{penAt, Puts, Room, shown, frameAt, InRows, Table, Scribable, Written};
 
 const HEADER: u8 = 1;
 
@@ -174,7 +174,7 @@ pub fn write_tables(
     separations: &[u8],
     text: &mut [u8],
 ) -> usize
-    requires { ⌜ Ready (lent counts (now assignment) (now permission)) count (now separations) (now text) ⌝ }
+    requires { ⌜ Scribable (lent counts (now assignment) (now permission)) count (now separations) (now text) ⌝ }
     ensures { λ r. ⌜ Written (sheetOf (lent counts (now (assignment .entry)) (now (permission .entry))) count (now (separations .entry))) (now (text .entry)) r (now (text .exit)) ⌝ }
 {
     let header = put_header(text, counts);

@@ -1,13 +1,14 @@
 -- Channels of the same pairs have the same verdict.
 use Prim.Native.Nat.{ℕ}
 use mathlib.Core.List.{List}
-use Rattle.theory.proofs.Flows.{Has, flow-more}
+use Rattle.theory.proofs.Flows.{flow-more}
 use Rattle.theory.proofs.Chains.{best-agrees}
 use Rattle.separations.specs.declared.Judged.{Judged}
-use Rattle.separations.specs.Verdict.{Verdict, hold, broken}
+use Rattle.separations.specs.Judgement.{Judgement, hold, broken}
+use Rattle.theory.specs.Laws.{Contains}
 
-module _ {ch ch′ : ℕ → ℕ → Type 0} (to′ : Has ch′ ch) (back : Has ch ch′) {count : ℕ} {separations before : List ℕ} {result : Judged × List ℕ} where
-  pub verdict-agrees : Verdict ch count separations before result → Verdict ch′ count separations before result
+module _ {ch ch′ : ℕ → ℕ → Type 0} (to′ : Contains ch′ ch) (back : Contains ch ch′) {count : ℕ} {separations before : List ℕ} {result : Judged × List ℕ} where
+  pub verdict-agrees : Judgement ch count separations before result → Judgement ch′ count separations before result
   verdict-agrees (hold all e) = hold (λ j h b. all j h (flow-more back _ _ b)) e
   verdict-agrees (broken i l p b e) =
       broken i l

@@ -9,7 +9,7 @@ use Rattle.answers.specs.Rows.{over}
 use Rattle.theory.proofs.Chains.{chain-flow, one-best}
 use Rattle.separations.specs.declared.Judged.{Judged}
 use Rattle.separations.specs.Shown.{Shown, shown, missing}
-use Rattle.separations.specs.Verdict.{Verdict, hold, broken}
+use Rattle.separations.specs.Judgement.{Judgement, hold, broken}
 use Rattle.separations.proofs.Verdicts.{one-finding, not-both}
 
 pub one-shown : {ch : ℕ → ℕ → Type 0} {x y : ℕ} {before : List ℕ} {r₁ r₂ : Told × List ℕ} → Shown ch x y before r₁ → Shown ch x y before r₂ → r₁ ≡ r₂
@@ -19,7 +19,7 @@ one-shown (missing none e) (shown l b f) = absurd (none (chain-flow (b .chain)))
 one-shown (missing none e) (missing none′ f) = e ∙ sym f
 
 module _ {ch : ℕ → ℕ → Type 0} {count : ℕ} {separations before : List ℕ} where
-  pub one-verdict : {r₁ r₂ : Judged × List ℕ} → Verdict ch count separations before r₁ → Verdict ch count separations before r₂ → r₁ ≡ r₂
+  pub one-verdict : {r₁ r₂ : Judged × List ℕ} → Judgement ch count separations before r₁ → Judgement ch count separations before r₂ → r₁ ≡ r₂
   one-verdict (hold all e) (hold all′ f) = e ∙ sym f
   one-verdict (hold all e) (broken i l p b f) = absurd (not-both p all)
   one-verdict (broken i l p b e) (hold all f) = absurd (not-both p all)

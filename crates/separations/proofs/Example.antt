@@ -1,17 +1,22 @@
 -- Channels 0 to 1 and 1 to 2 among four entities: what is shown, and which separation is the first broken one.
 use Prim.Native.Nat.{ℕ, zero, suc, _≤_, _<_}
 use mathlib.Core.Path.{refl}
+use mathlib.Core.Logic.{_⊎_}
 use mathlib.Core.List.{List, [], _∷_}
 use native.Mathlib.Omega.{arith}
 use lib.Dec.{lit<}
 use Rattle.answers.specs.Call.{told}
 use Rattle.answers.specs.Rows.{over}
-use Rattle.tables.specs.Sheet.{from, to}
+use Rattle.tables.specs.Sheet.{Sheet, sheet, counts, from, to}
 use Rattle.theory.specs.Flow.{Flow, here, step}
+use Rattle.theory.specs.Chain.{Best}
 use Rattle.theory.proofs.Flows.{flow-closed}
 use Rattle.theory.proofs.Chains.{best-alone}
+use Rattle.access.specs.Channel.{Channel}
 use Rattle.separations.specs.Shown.{Shown, shown, missing}
-use Rattle.separations.specs.Verdict.{AllHold, judged, Verdict, hold, broken}
+use Rattle.separations.specs.Judgement.{FirstBroken, AllHold, judged, Judgement, hold, broken}
+use Rattle.separations.proofs.Verdicts.{judged-one-way}
+use Rattle.separations.proofs.Findings.{told-chain, tells-chain}
 
 pub data Hop : ℕ → ℕ → Type 0 where
   hop01 : Hop 0 1
@@ -45,12 +50,16 @@ alone-shown : Shown Hop 1 1 (9 ∷ 9 ∷ []) (told 0 1, 1 ∷ 9 ∷ [])
 unfolding over
 alone-shown = shown (1 ∷ []) best-alone refl
 
+-- the chain that was told
+alone-told : Best Hop 1 1 (1 ∷ [])
+alone-told = told-chain alone-shown (tells-chain alone-shown here) .0
+
 -- no chain: 13, count 0, and the buffer as it was
 nothing-shown : Shown Hop 2 0 (9 ∷ 9 ∷ []) (told 13 0, 9 ∷ 9 ∷ [])
 nothing-shown = missing (λ f. omega (arith, rises f)) refl
 
 -- 2 to 0 and 0 to 3 hold
-all-hold : Verdict Hop 2 (2 ∷ 0 ∷ 0 ∷ 3 ∷ []) (9 ∷ []) (judged 0 0 0, 9 ∷ [])
+all-hold : Judgement Hop 2 (2 ∷ 0 ∷ 0 ∷ 3 ∷ []) (9 ∷ []) (judged 0 0 0, 9 ∷ [])
 all-hold = hold each refl
   where
     each : AllHold Hop 2 (2 ∷ 0 ∷ 0 ∷ 3 ∷ [])
@@ -62,7 +71,7 @@ all-hold = hold each refl
 abbrev four : List ℕ
 four = 1 ∷ 0 ∷ 2 ∷ 0 ∷ 2 ∷ 2 ∷ 0 ∷ 1 ∷ []
 
-third-broken : Verdict Hop 4 four (9 ∷ 9 ∷ []) (judged 14 2 1, 2 ∷ 9 ∷ [])
+third-broken : Judgement Hop 4 four (9 ∷ 9 ∷ []) (judged 14 2 1, 2 ∷ 9 ∷ [])
 unfolding over
 third-broken = broken 2 (2 ∷ []) (record { below = lit< tt; broken = here; before = these-hold }) best-alone refl
   where
@@ -70,3 +79,14 @@ third-broken = broken 2 (2 ∷ []) (record { below = lit< tt; broken = here; bef
     these-hold zero h f = omega (arith, rises f)
     these-hold (suc zero) h f = omega (arith, rises f)
     these-hold (suc (suc j)) h f = omega arith
+
+-- ---- of the sheet of two subjects and nothing else, the separation from 0 to 1 is judged one way or the other
+abbrev apart : Sheet
+apart = sheet (counts 2 0 0) [] [] []
+
+one-way : ((i : ℕ) × FirstBroken (Channel apart) 1 (0 ∷ 1 ∷ []) i) ⊎ AllHold (Channel apart) 1 (0 ∷ 1 ∷ [])
+one-way = judged-one-way apart 1 (0 ∷ 1 ∷ []) entity
+  where
+    entity : (i : ℕ) → i < 1 → from (0 ∷ 1 ∷ []) i < 2
+    entity zero h = lit< tt
+    entity (suc i) h = absurd (omega arith)

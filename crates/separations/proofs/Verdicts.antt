@@ -12,7 +12,7 @@ use Rattle.theory.proofs.Chains.{chain-flow, flow-chain, one-best}
 use Rattle.theory.proofs.Exists.{First, found, nothing, first-below}
 use Rattle.access.specs.Channel.{Channel}
 use Rattle.access.proofs.Decided.{sheet-flow-decided}
-use Rattle.separations.specs.Verdict.{Broken, FirstBroken, AllHold}
+use Rattle.separations.specs.Judgement.{Broken, FirstBroken, AllHold}
 
 module _ (ch : ℕ → ℕ → Type 0) (separations : List ℕ) where
   -- "one is broken exactly if such a chain exists"

@@ -1,3 +1,3 @@
 -- The shown chain, and the first broken separation, over any relation of channels. Read in this order.
 pub mod Shown
-pub mod Verdict
+pub mod Judgement

@@ -1,9 +1,9 @@
 -- Each contract determines its result, and both round trips hold of the results of the calls. Read in this order.
 pub mod Determined
+pub mod Wrote
 pub mod Accepts
 pub mod ReadDone
 pub mod Calls
-pub mod Instances
 pub mod ReadReturns
-pub mod Wrote
+pub mod Instances
 pub mod Placed

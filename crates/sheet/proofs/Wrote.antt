@@ -12,10 +12,9 @@ use Rattle.answers.specs.Rows.{shorter}
 use Rattle.answers.proofs.Calls.{refuse-shared, refuse-own, accept-own}
 use Rattle.answers.proofs.Joined.{neither}
 use Rattle.tables.specs.Sheet.{Lent, sheetOf, entities}
-use Rattle.tables.specs.Refusals.{noList, sheetRefusals, separationRefusals}
-use Rattle.tables.specs.Inner.{Sized}
+use Rattle.tables.specs.Refusals.{noList, sheetRefusals, separationRefusals, Sized}
 use Rattle.tables.proofs.Accepted.{sheet-numbered, tables-passed, separations-passed}
-use Rattle.scribe.specs.Put.{Ready, Written}
+use Rattle.scribe.specs.Put.{Scribable, Written}
 use Rattle.sheet.specs.Write.{Writes, writeRefusals}
 
 module _ (l : Lent) (count : ℕ) (separations text : List ℕ) where
@@ -28,18 +27,18 @@ module _ (l : Lent) (count : ℕ) (separations text : List ℕ) where
   pairsRefusal = firstRefusal (separationRefusals (entities (l .counts)) count separations)
 
   -- what is known where 1, 5 and 11 have passed
-  pub record Passed : Type 0 where
+  pub record Writable : Type 0 where
     pub sized : Sized l
     pub separations-long : leastSeparations ≤ length separations
     pub text-long : leastText ≤ length text
 
-  pub past-tables : tablesRefusal ≡ 0 → Passed
+  pub past-tables : tablesRefusal ≡ 0 → Writable
   past-tables e =
       let tables = tables-passed _ noList l e in
       let short = neither (shorter separations leastSeparations) (shorter text leastText) (tables .not-short) in
       record { sized = tables .sized; separations-long = ltb-false _ _ (short .0); text-long = ltb-false _ _ (short .1) }
 
-  pub past-all : tablesRefusal ≡ 0 → pairsRefusal ≡ 0 → Ready l count separations text
+  pub past-all : tablesRefusal ≡ 0 → pairsRefusal ≡ 0 → Scribable l count separations text
   past-all e f =
       let p = past-tables e in
       record {

@@ -1,5 +1,5 @@
 -- Writing: what the call answers and writes.
-use Prim.Native.Nat.{ℕ}
+use Prim.Native.Nat.{ℕ, _≤_}
 use mathlib.Core.Path.{_≡_}
 use mathlib.Core.Bool.{_||_}
 use mathlib.Core.List.{List}
@@ -11,6 +11,7 @@ use Rattle.answers.specs.Rows.{over, shorter}
 use Rattle.tables.specs.Sheet.{Lent, sheetOf, entities}
 use Rattle.tables.specs.Refusals.{noList, sheetRefusals, separationRefusals}
 use Rattle.text.specs.Content.{writeSheet}
+use Rattle.reader.specs.Fill.{tables, LongTables}
 
 -- "1, 5, 11; then, if it takes separations, 8, and then the first faulty pair, 6 before 7"
 unfoldable pub writeRefusals : Lent → ℕ → List ℕ → List ℕ → List Refusal
@@ -23,3 +24,8 @@ abbrev pub Writes : Lent → ℕ → List ℕ → List ℕ → Told × List ℕ 
 Writes l count separations before =
     Outcome (writeRefusals l count separations before) (toldAndLeft before)
     (λ result. result ≡ (told 0 (length (writeSheet (sheetOf l count separations))), over (writeSheet (sheetOf l count separations)) before))
+
+-- "Least lent lengths, whatever the counts: .. text to be written 44,240": the buffers that `write` is lent have them
+pub record LongToWrite (l : Lent) (separations text : List ℕ) : Type 0 where
+  pub tables-long : LongTables (tables (l .assignment) (l .permission) separations)
+  pub text-long : leastText ≤ length text

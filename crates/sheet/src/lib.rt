@@ -3,13 +3,13 @@ use answers::Told;
 use answers::sizes;
 use tables::Counts;
 ghost use mathlib.Core.Path.{_≡_};
-ghost use Rattle.answers.specs.Call.{told};
+ghost use lib.ListN.{length};
+ghost use Rattle.answers.specs.Call.{firstRefusal, told};
 ghost use Rattle.tables.specs.Sheet.{lent};
-ghost use Rattle.reader.specs.Fill.{atEntry, atExit};
-ghost use Rattle.sheet.specs.Read.{readTo, Reads};
+ghost use Rattle.reader.specs.Fill.{Tables, atEntry, atExit};
+ghost use Rattle.sheet.specs.Read.{readTo, readRefusals, refusedBy, acceptedWith, Reads};
 ghost use Rattle.sheet.specs.Write.{Writes};
 ghost use Rattle.sheet.specs.RefusedLine.{RefusedLine};
-ghost use Rattle.sheet.specs.Inner.{refusedBy, acceptedWith, anyShort};
 
 // What reading answers: the number and the line of a refusal, or the counts of an accepted sheet.
 #[repr(C)]
@@ -36,7 +36,7 @@ fn refused_reading(answer: u8, line: usize) -> Reading
 }
 
 fn accepted_reading(k: frames::Passed) -> Reading
-    ensures { λ r. ⌜ r ≡ acceptedWith k ⌝ }
+    ensures { λ r. ⌜ r ≡ acceptedWith (k .counts) (k .separations) ⌝ }
 {
     let counts = k.counts;
     Reading {
@@ -47,15 +47,13 @@ fn accepted_reading(k: frames::Passed) -> Reading
     }
 }
 
-// Whether one of the three tables is shorter than its least length.
-fn some_short(assignment: usize, permission: usize, separations: usize) -> bool
-    ensures { λ r. ⌜ r ≡ anyShort assignment permission separations ⌝ }
+// 1 of reading into tables of these lengths, 0 for none.
+fn length_refusal(assignment: usize, permission: usize, separations: usize) -> u8
+    ensures { λ r. ⌜ ((t : Tables) → length (t .assignment) ≡ assignment → length (t .permission) ≡ permission → length (t .separations) ≡ separations → r ≡ firstRefusal (readRefusals t)) ⌝ }
 {
-    let some = answers::either(
-        assignment < sizes::LEAST_ASSIGNMENT,
-        permission < sizes::LEAST_PERMISSION,
-    );
-    answers::either(some, separations < sizes::LEAST_SEPARATIONS)
+    let separated = answers::refuse(separations < sizes::LEAST_SEPARATIONS, 1, 0);
+    let permitted = answers::refuse(permission < sizes::LEAST_PERMISSION, 1, separated);
+    answers::refuse(assignment < sizes::LEAST_ASSIGNMENT, 1, permitted)
 }
 
 // Reads a sheet into the lent tables. The whole text is checked before a table is written, so a refusal changes none.
@@ -67,8 +65,9 @@ pub fn read(
 ) -> Reading
     ensures { λ r. ⌜ Reads (now (text .entry)) (atEntry assignment permission separations) (readTo r (atExit assignment permission separations)) ⌝ }
 {
-    if some_short(assignment.len(), permission.len(), separations.len()) {
-        return refused_reading(1, 0);
+    let refusal = length_refusal(assignment.len(), permission.len(), separations.len());
+    if refusal != 0 {
+        return refused_reading(refusal, 0);
     }
     if sizes::MOST_TEXT < text.len() {
         return refused_reading(5, 0);
@@ -76,8 +75,8 @@ pub fn read(
     let checked = checking::check_text(text);
     let verdict = checked.verdict;
     match verdict {
-        frames::Verdict::Refused(n, line) => refused_reading(n, line),
-        frames::Verdict::Accepted => {
+        frames::CheckedText::Refused(n, line) => refused_reading(n, line),
+        frames::CheckedText::Accepted => {
             reader::fill(text, assignment, permission, separations);
             let passed = checked.passed;
             accepted_reading(passed)

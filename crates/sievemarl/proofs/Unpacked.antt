@@ -6,7 +6,7 @@ use native.Mathlib.Omega.{arith}
 use lib.ListN.{replicate}
 use Rattle.tables.specs.Sheet.{Lent}
 use Rattle.separations.specs.declared.Judged.{Judged}
-use Rattle.separations.specs.Verdict.{judged}
+use Rattle.separations.specs.Judgement.{judged}
 use Rattle.verdict.proofs.Bounds.{Small, judged-small}
 use Rattle.verdict.proofs.Instances.{tables, separations, before, call}
 use Rattle.sievemarl.specs.Packed.{packed}

@@ -8,7 +8,7 @@ use Rattle.transfers.specs.declared.Act.{Act}
 use Rattle.transfers.specs.declared.Act.the-variants.{Moves, OutOfRange}
 use Rattle.transfers.specs.declared.Transfer.{Transfer}
 use Rattle.transfers.specs.Transfers.{Way, toSubject, toObject, Comes, moves, outside, barred}
-use Rattle.steps.specs.Inner.{Tried, has-channel, lacks-channel, Within, between, no-number, no-channel}
+use Rattle.steps.specs.Inner.{Tried, has-channel, lacks-channel, MovesWithin, between, no-number, no-channel}
 use Rattle.transfers.proofs.Acting.{way-ends}
 
 module _ {c : Counts} {ch : ℕ → ℕ → Type 0} {t : Transfer} where
@@ -40,10 +40,10 @@ module _ {c : Counts} {ch : ℕ → ℕ → Type 0} {t : Transfer} where
   way-comes w (lacks-channel h) = barred w h
 
   -- a move goes between marks
-  pub comes-within : {n : ℕ} {act : Act} → entities c ≤ n → Comes c ch t act → Within n act
+  pub comes-within : {n : ℕ} {act : Act} → entities c ≤ n → Comes c ch t act → MovesWithin n act
   comes-within room (moves {a = a} {b = b} w h) = let e = way-ends w in between {a = a} {b = b} (omega arith) (omega arith)
   comes-within room (outside no-way) = no-number
   comes-within room (barred w h) = no-channel
 
-pub move-ends : {n a b : ℕ} → Within n (Moves a b) → (a < n) × (b < n)
+pub move-ends : {n a b : ℕ} → MovesWithin n (Moves a b) → (a < n) × (b < n)
 move-ends (between h k) = (h, k)

@@ -13,7 +13,7 @@ use Rattle.tables.specs.Sheet.{entities}
 use Rattle.transfers.specs.declared.Act.{Act}
 use Rattle.transfers.specs.declared.Act.the-variants.{Moves, OutOfRange, NotPermitted}
 use Rattle.transfers.specs.declared.Transfer.{Transfer}
-use Rattle.transfers.specs.Acts.{verdict, acted}
+use Rattle.transfers.specs.Acts.{verdictByte, acted}
 use Rattle.transfers.specs.Transfers.{Comes}
 use Rattle.steps.specs.declared.Progress.{Progress}
 
@@ -23,14 +23,14 @@ pub data Tried (ch : ℕ → ℕ → Type 0) (a b : ℕ) : Act → Type 0 where
   lacks-channel : (ch a b → ⊥) → Tried ch a b NotPermitted
 
 -- an act that moves between n marks, or moves none
-pub data Within (n : ℕ) : Act → Type 0 where
-  between : {a b : ℕ} → a < n → b < n → Within n (Moves a b)
-  no-number : Within n OutOfRange
-  no-channel : Within n NotPermitted
+pub data MovesWithin (n : ℕ) : Act → Type 0 where
+  between : {a b : ℕ} → a < n → b < n → MovesWithin n (Moves a b)
+  no-number : MovesWithin n OutOfRange
+  no-channel : MovesWithin n NotPermitted
 
 -- an act made: its verdict byte, and the marks
 pub record Made (act : Act) (marks marks′ : List ℕ) (byte : ℕ) : Type 0 where
-  pub byte-is : byte ≡ verdict act
+  pub byte-is : byte ≡ verdictByte act
   pub moved : marks′ ≡ acted act marks
 
 -- one verdict byte more
@@ -74,5 +74,5 @@ pub record Stepped (c : Counts) (channels : List ℕ) (t : Transfer) (k : ℕ) (
   pub act : Act
   pub comes : Comes c (Bytes (entities c) channels) t act
   pub marks-are : after .marks ≡ acted act (before .marks)
-  pub verdicts-are : after .verdicts ≡ set (before .verdicts) k (verdict act)
-  pub progress-is : after .progress ≡ noted (before .progress) (verdict act)
+  pub verdicts-are : after .verdicts ≡ set (before .verdicts) k (verdictByte act)
+  pub progress-is : after .progress ≡ noted (before .progress) (verdictByte act)

@@ -12,7 +12,7 @@ ghost use Rattle.answers.specs.Rows.{Bytes};
 ghost use Rattle.tables.specs.Sheet.{entities};
 ghost use Rattle.transfers.specs.Acts.{plus, acted};
 ghost use Rattle.transfers.specs.Transfers.{transfer, Comes};
-ghost use Rattle.steps.specs.Inner.{Tried, Within, Made, noted, state, Steppable, Stepped};
+ghost use Rattle.steps.specs.Inner.{Tried, MovesWithin, Made, noted, state, Steppable, Stepped};
 
 // How far a rehearsal is: its refusal, how many transfers it makes, and its verdict bytes 0, 10 and 16 so far.
 pub struct Progress {
@@ -87,7 +87,7 @@ fn move_mark(marks: &mut [u32], a: usize, b: usize)
 
 // Makes the act's move, if it has one, and tells its verdict byte.
 fn act_on(marks: &mut [u32], act: Act) -> u8
-    requires { ⌜ Within (length (now marks)) act ⌝ }
+    requires { ⌜ MovesWithin (length (now marks)) act ⌝ }
     ensures { λ r. ⌜ Made act (now (marks .entry)) (now (marks .exit)) r ⌝ }
 {
     match act {

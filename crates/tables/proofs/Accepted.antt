@@ -9,8 +9,7 @@ use borrow.Author.Tests.{ltb-true, ltb-false, leb-false, lt-ltb, le-ltb, lt-leb}
 use lib.Dec.{T, ltb}
 use Rattle.answers.specs.Call.{firstRefusal, _then_, eachBelow}
 use Rattle.tables.specs.Sheet.{Lent, from, to, separationKey}
-use Rattle.tables.specs.Refusals.{sizeRefusals, usedRefusals, sheetRefusals, pairRefusals, separationRefusals}
-use Rattle.tables.specs.Inner.{Sized, Listed}
+use Rattle.tables.specs.Refusals.{sizeRefusals, usedRefusals, sheetRefusals, pairRefusals, separationRefusals, Sized, Listed, Acceptable}
 use Rattle.answers.proofs.Below.{none-above, all-within}
 use Rattle.answers.proofs.Calls.{numbered, none-left, passed, pass, passed-then, pass-then}
 use Rattle.answers.proofs.Scans.{each-passes, all-pass}
@@ -20,13 +19,7 @@ pub sheet-numbered : (short long : Bool) (l : Lent) → T (numbered (sheetRefusa
 unfolding _then_ sheetRefusals sizeRefusals usedRefusals
 sheet-numbered short long l = tt
 
--- what tables have that passed, and that the call's other buffers passed too
-pub record Passed (short long : Bool) (l : Lent) : Type 0 where
-  pub not-short : short ≡ false
-  pub not-long : long ≡ false
-  pub sized : Sized l
-
-pub tables-passed : (short long : Bool) (l : Lent) → firstRefusal (sheetRefusals short long l) ≡ 0 → Passed short long l
+pub tables-passed : (short long : Bool) (l : Lent) → firstRefusal (sheetRefusals short long l) ≡ 0 → Acceptable short long l
 unfolding _then_ sheetRefusals sizeRefusals usedRefusals
 tables-passed short long l e =
     let s = passed _ _ _ tt e in
@@ -43,9 +36,7 @@ tables-passed short long l e =
       not-long = t .0;
       sized =
           record {
-            subjects = ltb-false _ _ (ns .0);
-            objects = ltb-false _ _ (no′ .0);
-            roles = ltb-false _ _ (nr .0);
+            counts-fit = record { subjects = ltb-false _ _ (ns .0); objects = ltb-false _ _ (no′ .0); roles = ltb-false _ _ (nr .0) };
             assignment = ltb-false _ _ (a .0);
             permission = ltb-false _ _ (p .0);
             assigned = none-above (l .assignment) _ _ (b .0);
@@ -53,7 +44,7 @@ tables-passed short long l e =
           };
     }
 
-pub tables-pass : (short long : Bool) (l : Lent) → Passed short long l → firstRefusal (sheetRefusals short long l) ≡ 0
+pub tables-pass : (short long : Bool) (l : Lent) → Acceptable short long l → firstRefusal (sheetRefusals short long l) ≡ 0
 unfolding _then_ sheetRefusals sizeRefusals usedRefusals firstRefusal
 tables-pass short long l p =
     let s = p .sized in
@@ -61,9 +52,9 @@ tables-pass short long l p =
       p .not-short,
       le-ltb _ _ (s .assignment),
       le-ltb _ _ (s .permission),
-      le-ltb _ _ (s .subjects),
-      le-ltb _ _ (s .objects),
-      le-ltb _ _ (s .roles),
+      le-ltb _ _ (s .counts-fit .subjects),
+      le-ltb _ _ (s .counts-fit .objects),
+      le-ltb _ _ (s .counts-fit .roles),
       p .not-long,
       all-within (l .assignment) (l .counts .subjects * l .counts .roles) 1 (s .assigned),
       all-within (l .permission) (l .counts .roles * l .counts .objects) 3 (s .modes),

@@ -12,8 +12,7 @@ use Rattle.answers.specs.Rows.{at}
 use Rattle.answers.proofs.Below.{none-of, all-fail, none-above, all-within}
 use Rattle.answers.proofs.Calls.{numbered, none-left, passed, pass, passed-then, pass-then}
 use Rattle.answers.proofs.Products.{place-below, product-within}
-use Rattle.tables.specs.FlowTable.{byteRefusals, flowSizeRefusals, flowRefusals}
-use Rattle.tables.specs.Inner.{SizedFlow, SoundFlow}
+use Rattle.tables.specs.FlowTable.{byteRefusals, flowSizeRefusals, flowRefusals, SizedFlow, SoundFlow}
 
 pub flow-numbered : (short : Bool) (n : ℕ) (table : List ℕ) → T (numbered (flowRefusals short n table))
 unfolding flowRefusals flowSizeRefusals byteRefusals _then_

@@ -2,5 +2,6 @@
 pub mod Keys
 pub mod Accepted
 pub mod Sounds
+pub mod Unjudged
 pub mod FlowTables
 pub mod Examples

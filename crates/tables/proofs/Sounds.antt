@@ -7,8 +7,8 @@ use lib.ListN.{length, getD, take}
 use lib.Seq.{getD-take, length-take-le}
 use Rattle.answers.specs.Sizes.{mostEntities, leastAssignment, leastPermission}
 use Rattle.tables.specs.Sheet.{Lent, sheetOf, entities, from, to, pairKey, separationKey, Sound}
-use Rattle.tables.specs.Inner.{Sized, Listed}
 use Rattle.answers.proofs.Products.{product-within}
+use Rattle.tables.specs.Refusals.{Sized, Listed}
 
 -- the bytes of a used part are those of the buffer
 part-bytes : (n : ℕ) (bytes : List ℕ) (most : ℕ) → n ≤ length bytes → ((k : ℕ) → k < n → getD bytes k 0 ≤ most) →
@@ -37,12 +37,10 @@ module _ (l : Lent) (count : ℕ) (separations : List ℕ) where
   pub sound-of : Sized l → 2 * count ≤ length separations → Listed (entities (l .counts)) count separations → Sound (sheetOf l count separations)
   unfolding sheetOf
   sound-of s room p =
-      let assigned-fit : l .counts .subjects * l .counts .roles ≤ length (l .assignment) = product-within _ _ 48 48 _ (s .subjects) (s .roles) (s .assignment) in
-      let modes-fit : l .counts .roles * l .counts .objects ≤ length (l .permission) = product-within _ _ 48 64 _ (s .roles) (s .objects) (s .permission) in
+      let assigned-fit : l .counts .subjects * l .counts .roles ≤ length (l .assignment) = product-within _ _ 48 48 _ (s .counts-fit .subjects) (s .counts-fit .roles) (s .assignment) in
+      let modes-fit : l .counts .roles * l .counts .objects ≤ length (l .permission) = product-within _ _ 48 64 _ (s .counts-fit .roles) (s .counts-fit .objects) (s .permission) in
       record {
-        subjects-fit = s .subjects;
-        objects-fit = s .objects;
-        roles-fit = s .roles;
+        counts-fit = s .counts-fit;
         assignment-size = length-take-le _ (l .assignment) assigned-fit;
         assignment-bytes = part-bytes _ (l .assignment) 1 assigned-fit (s .assigned);
         permission-size = length-take-le _ (l .permission) modes-fit;
@@ -60,13 +58,11 @@ module _ (l : Lent) (count : ℕ) (separations : List ℕ) where
     unfolding sheetOf
     sized-of a p =
         record {
-          subjects = t .subjects-fit;
-          objects = t .objects-fit;
-          roles = t .roles-fit;
+          counts-fit = t .counts-fit;
           assignment = a;
           permission = p;
-          assigned = whole-bytes _ (l .assignment) 1 (product-within _ _ 48 48 _ (t .subjects-fit) (t .roles-fit) a) (t .assignment-bytes);
-          modes = whole-bytes _ (l .permission) 3 (product-within _ _ 48 64 _ (t .roles-fit) (t .objects-fit) p) (t .permission-bytes);
+          assigned = whole-bytes _ (l .assignment) 1 (product-within _ _ 48 48 _ (t .counts-fit .subjects) (t .counts-fit .roles) a) (t .assignment-bytes);
+          modes = whole-bytes _ (l .permission) 3 (product-within _ _ 48 64 _ (t .counts-fit .roles) (t .counts-fit .objects) p) (t .permission-bytes);
         }
 
     pub listed-of : 2 * count ≤ length separations → Listed (entities (l .counts)) count separations
@@ -84,4 +80,4 @@ module _ (l : Lent) (count : ℕ) (separations : List ℕ) where
 
 -- a sheet has at most 112 entities
 pub entities-fit : (l : Lent) → Sized l → entities (l .counts) ≤ mostEntities
-entities-fit l s = omega (arith, s .subjects, s .objects)
+entities-fit l s = omega (arith, s .counts-fit .subjects, s .counts-fit .objects)

@@ -2,4 +2,3 @@
 pub mod Sheet
 pub mod Refusals
 pub mod FlowTable
-pub mod Inner

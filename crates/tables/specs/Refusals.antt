@@ -1,12 +1,14 @@
 -- The refusals that every call on tables shares, in the document's order.
 use mathlib.Core.Bool.{Bool, false, _&&_}
 use mathlib.Core.List.{List, [], _∷_}
-use Prim.Native.Nat.{ℕ, _*_, _-_}
+use Prim.Native.Nat.{ℕ, _+_, _*_, _-_, _≤_, _<_}
+use mathlib.Core.Path.{_≡_}
 use lib.Dec.{leb, ltb}
+use lib.ListN.{length, getD}
 use Rattle.answers.specs.Sizes.{mostSubjects, mostObjects, mostRoles, mostSeparations, leastAssignment, leastPermission}
 use Rattle.answers.specs.Call.{Refusal, _if_, _then_, eachBelow}
 use Rattle.answers.specs.Rows.{shorter, exceeds, someAbove}
-use Rattle.tables.specs.Sheet.{Lent, from, to, separationKey}
+use Rattle.tables.specs.Sheet.{CountsFit, Lent, from, to, separationKey}
 
 -- 1 and 5, by lengths and counts. `short` says that another buffer of the call is shorter than its least length, `long` that a
 -- transfer list is over its size.
@@ -52,3 +54,24 @@ pairRefusals n separations i =
 unfoldable pub separationRefusals : ℕ → ℕ → List ℕ → List Refusal
 separationRefusals n count separations =
     ((8 if exceeds count mostSeparations) ∷ []) then eachBelow count (pairRefusals n separations)
+
+-- ---- what tables have that passed
+-- 1, 5 and 11
+pub record Sized (l : Lent) : Type 0 where
+  pub counts-fit : CountsFit (l .counts)
+  pub assignment : leastAssignment ≤ length (l .assignment)
+  pub permission : leastPermission ≤ length (l .permission)
+  pub assigned : (k : ℕ) → k < l .counts .subjects * l .counts .roles → getD (l .assignment) k 0 ≤ 1
+  pub modes : (k : ℕ) → k < l .counts .roles * l .counts .objects → getD (l .permission) k 0 ≤ 3
+
+-- the same of a call, by what it says of its other buffers and of its transfer list
+pub record Acceptable (short long : Bool) (l : Lent) : Type 0 where
+  pub not-short : short ≡ false
+  pub not-long : long ≡ false
+  pub sized : Sized l
+
+-- 8, 6 and 7: separations among n entities
+pub record Listed (n count : ℕ) (separations : List ℕ) : Type 0 where
+  pub few : count ≤ mostSeparations
+  pub below : (i : ℕ) → i < count → (from separations i < n) × (to separations i < n)
+  pub ascend : (i : ℕ) → i + 1 < count → separationKey separations i < separationKey separations (i + 1)

@@ -5,7 +5,7 @@ use mathlib.Core.List.{List, []}
 use Prim.Native.Nat.{ℕ, _+_, _*_, _≤_, _<_}
 use lib.ListN.{length, getD, take}
 use Rattle.tables.specs.declared.Counts.{Counts}
-use Rattle.answers.specs.Rows.{at}
+use Rattle.answers.specs.Rows.{at, SameUsed}
 use Rattle.answers.specs.Sizes.{mostSubjects, mostObjects, mostRoles, mostSeparations}
 
 -- "01 S O R"
@@ -15,6 +15,12 @@ counts s o r = record { subjects = s; objects = o; roles = r }
 -- "Entities are numbered from 0: subjects first, then objects": N = S + O
 abbrev pub entities : Counts → ℕ
 entities c = c .subjects + c .objects
+
+-- "subjects S | 48", "objects O | 64", "roles R | 48"
+pub record CountsFit (c : Counts) : Type 0 where
+  pub subjects : c .subjects ≤ mostSubjects
+  pub objects : c .objects ≤ mostObjects
+  pub roles : c .roles ≤ mostRoles
 
 -- "so object o is entity S + o"
 abbrev pub objectEntity : Counts → ℕ → ℕ
@@ -29,6 +35,12 @@ pub record Lent : Type 0 where
 -- what is lent to a call on tables
 abbrev pub lent : Counts → List ℕ → List ℕ → Lent
 lent c assignment permission = record { counts = c; assignment = assignment; permission = permission }
+
+-- "Bytes past the used part are neither judged nor altered": what two callers lend, if it differs past the used parts at most
+pub record SameTables (l l′ : Lent) : Type 0 where
+  pub same-counts : l .counts ≡ l′ .counts
+  pub assignment : SameUsed (l .counts .subjects * l .counts .roles) (l .assignment) (l′ .assignment)
+  pub permission : SameUsed (l .counts .roles * l .counts .objects) (l .permission) (l′ .permission)
 
 -- "Tables in memory": what a sheet says, with no byte past what its counts use
 pub record Sheet : Type 0 where
@@ -88,9 +100,7 @@ separationKey separations i = pairKey (from separations i) (to separations i)
 -- Tables that are accepted: each count within its size, each byte within its range, separations between entities and
 -- strictly ascending.
 pub record Sound (t : Sheet) : Type 0 where
-  pub subjects-fit : t .counts .subjects ≤ mostSubjects
-  pub objects-fit : t .counts .objects ≤ mostObjects
-  pub roles-fit : t .counts .roles ≤ mostRoles
+  pub counts-fit : CountsFit (t .counts)
   pub assignment-size : length (t .assignment) ≡ t .counts .subjects * t .counts .roles
   pub assignment-bytes : (k : ℕ) → k < length (t .assignment) → getD (t .assignment) k 0 ≤ 1
   pub permission-size : length (t .permission) ≡ t .counts .roles * t .counts .objects

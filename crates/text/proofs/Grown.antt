@@ -65,13 +65,13 @@ module _ (t : Sheet) (p : Sound t) (last : ℕ) (reached : Reached t last) where
   unfolding opened body add assignAt separates key
   grow-assign s r hs hr up =
       simp (
-        set-last 2 (t .counts .roles) s r (t .assignment) last hr (omega (arith, p .roles-fit)) (reached .assignment) up (assignAt (t .counts .roles)) 1
+        set-last 2 (t .counts .roles) s r (t .assignment) last hr (omega (arith, p .counts-fit .roles)) (reached .assignment) up (assignAt (t .counts .roles)) 1
             (omega (arith, p .assignment-size, digits-lt hs hr)) (omega arith),
         digits-div s hr,
         digits-mod s hr,
         present-none (permitAt (t .counts .objects)) 0 (t .permission)
-            (λ i. reached .permission i (omega (arith, place-low 3 (t .counts .objects) i, p .subjects-fit, p .roles-fit))),
-        no-separations (omega (arith, p .subjects-fit, p .roles-fit)),
+            (λ i. reached .permission i (omega (arith, place-low 3 (t .counts .objects) i, p .counts-fit .subjects, p .counts-fit .roles))),
+        no-separations (omega (arith, p .counts-fit .subjects, p .counts-fit .roles)),
         append-nil,
       )
 
@@ -80,11 +80,11 @@ module _ (t : Sheet) (p : Sound t) (last : ℕ) (reached : Reached t last) where
   unfolding opened body add permitAt separates key
   grow-permit r o m hr ho some up =
       simp (
-        set-last 3 (t .counts .objects) r o (t .permission) last ho (omega (arith, p .objects-fit)) (reached .permission) up (permitAt (t .counts .objects)) m
+        set-last 3 (t .counts .objects) r o (t .permission) last ho (omega (arith, p .counts-fit .objects)) (reached .permission) up (permitAt (t .counts .objects)) m
             (omega (arith, p .permission-size, digits-lt hr ho)) some,
         digits-div r ho,
         digits-mod r ho,
-        no-separations (omega (arith, p .roles-fit, p .objects-fit)),
+        no-separations (omega (arith, p .counts-fit .roles, p .counts-fit .objects)),
         append-nil,
         append-assoc,
       )
@@ -97,7 +97,7 @@ module _ (t : Sheet) (p : Sound t) (last : ℕ) (reached : Reached t last) where
   unfolding add key
   reached-assign s r hr up =
       record {
-        assignment = set-above 2 (t .counts .roles) s r (t .assignment) last hr (omega (arith, p .roles-fit)) (reached .assignment) up 1;
+        assignment = set-above 2 (t .counts .roles) s r (t .assignment) last hr (omega (arith, p .counts-fit .roles)) (reached .assignment) up 1;
         permission = λ i h. reached .permission i (omega arith);
         separations = λ i h. omega (arith, reached .separations i h);
       }
@@ -107,7 +107,7 @@ module _ (t : Sheet) (p : Sound t) (last : ℕ) (reached : Reached t last) where
   reached-permit r o m ho up =
       record {
         assignment = λ i h. reached .assignment i (omega arith);
-        permission = set-above 3 (t .counts .objects) r o (t .permission) last ho (omega (arith, p .objects-fit)) (reached .permission) up m;
+        permission = set-above 3 (t .counts .objects) r o (t .permission) last ho (omega (arith, p .counts-fit .objects)) (reached .permission) up m;
         separations = λ i h. omega (arith, reached .separations i h);
       }
 

@@ -78,9 +78,7 @@ pub sound-blank : (c : Counts) → c .subjects ≤ mostSubjects → c .objects �
 unfolding blank
 sound-blank c s o r =
     record {
-      subjects-fit = s;
-      objects-fit = o;
-      roles-fit = r;
+      counts-fit = record { subjects = s; objects = o; roles = r };
       assignment-size = length-replicate (c .subjects * c .roles) 0;
       assignment-bytes = λ k h. rw zeros (omega arith);
       permission-size = length-replicate (c .roles * c .objects) 0;
@@ -97,9 +95,7 @@ module _ (t : Sheet) (p : Sound t) where
       length q ≡ length (t .permission) → ((k : ℕ) → k < length q → getD q k 0 ≤ 3) → Sound (sheet (t .counts) a q (t .separations))
   other-tables a q a-size a-bytes q-size q-bytes =
       record {
-        subjects-fit = p .subjects-fit;
-        objects-fit = p .objects-fit;
-        roles-fit = p .roles-fit;
+        counts-fit = p .counts-fit;
         assignment-size = a-size ∙ p .assignment-size;
         assignment-bytes = a-bytes;
         permission-size = q-size ∙ p .permission-size;
@@ -130,9 +126,7 @@ module _ (t : Sheet) (p : Sound t) where
   unfolding add
   sound-separate x y room hx hy rises =
       record {
-        subjects-fit = p .subjects-fit;
-        objects-fit = p .objects-fit;
-        roles-fit = p .roles-fit;
+        counts-fit = p .counts-fit;
         assignment-size = p .assignment-size;
         assignment-bytes = p .assignment-bytes;
         permission-size = p .permission-size;

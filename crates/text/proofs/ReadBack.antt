@@ -13,7 +13,7 @@ use Rattle.frames.specs.declared.Frame.{Frame}
 use Rattle.frames.specs.declared.Frame.the-variants.{Header, Assign, Permit, Separate, End}
 use Rattle.frames.specs.declared.Parsed.the-variants.{Good}
 use Rattle.frames.specs.declared.Passed.{Passed}
-use Rattle.frames.specs.declared.Verdict.the-variants.{Accepted}
+use Rattle.frames.specs.declared.CheckedText.the-variants.{Accepted}
 use Rattle.frames.specs.Frame.{frameBytes, key}
 use Rattle.frames.specs.Check.{passed, start, next, misplaced, check}
 use Rattle.frames.proofs.Frames.{FrameBytes}

@@ -1,26 +1,44 @@
--- The number of a refused line is at most one more than the most bytes of a text, so that two bytes hold it.
-use Prim.Native.Nat.{ℕ, zero, suc, _+_, _≤_}
-use mathlib.Core.Path.{_≡_, refl, ap}
+-- A text over its size is refused with line 0, and the number of a refused line is at most one more than the most bytes of a text, so
+-- that two bytes hold it.
+use Prim.Native.Nat.{ℕ, zero, suc, _+_, _≤_, _<_}
+use mathlib.Core.Path.{_≡_, refl, sym, ap}
 use mathlib.Core.Bool.{Bool, true, false, cond}
 use mathlib.Core.List.{List, [], _∷_, map}
+use native.Mathlib.Nat.{le-of-eq}
 use native.Mathlib.Omega.{arith}
-use borrow.Author.Tests.{ltb-false}
+use borrow.Author.Tests.{lt-ltb, ltb-false}
 use lib.Dec.{eqb}
-use lib.ListN.{length}
+use lib.ListN.{length, replicate, length-replicate}
 use Rattle.answers.specs.Call.{firstRefusal}
 use Rattle.answers.specs.Rows.{exceeds}
 use Rattle.answers.specs.Sizes.{mostText}
 use Rattle.digits.specs.Line.{Line, line, feed, joined, lines}
 use Rattle.frames.specs.declared.Parsed.{Parsed}
 use Rattle.frames.specs.declared.Passed.{Passed}
-use Rattle.frames.specs.declared.Verdict.{Verdict}
-use Rattle.frames.specs.declared.Verdict.the-variants.{Refused, Accepted}
+use Rattle.frames.specs.declared.CheckedText.{CheckedText}
+use Rattle.frames.specs.declared.CheckedText.the-variants.{Refused, Accepted}
 use Rattle.frames.specs.Frame.{parse}
 use Rattle.frames.specs.Check.{start, lineRefusals, nextLine, check, parsedLines, framesOf}
 use Rattle.frames.proofs.Checks.{check-go, check-stop, more-lines}
 use Rattle.text.specs.Content.{contentOf}
 use Rattle.text.specs.Reading.{refused, readBy, readLines, readText}
 use Rattle.text.proofs.Worked.{reading}
+
+-- "5 for the text length, .. with line 0"
+pub over-size-refused : (text : List ℕ) → mostText < length text → readText text ≡ refused 5 0
+unfolding readText
+over-size-refused text h = rw (lt-ltb mostText (length text) h)
+
+-- as of a text of 44,241 bytes
+pub overSize : List ℕ
+overSize = replicate 44241 0
+
+pub over-size : mostText < length overSize
+unfolding overSize
+over-size = le-of-eq (sym (length-replicate {A = ℕ} 44241 0))
+
+over-size-read : readText overSize ≡ refused 5 0
+over-size-read = over-size-refused overSize over-size
 
 -- ---- a text has no more lines than bytes
 joined-long : (b : ℕ) (ls : List Line) → length (joined b ls) ≤ suc (length ls)
@@ -65,7 +83,7 @@ pub refused-line-fits : (text : List ℕ) (n at : ℕ) → readText text ≡ ref
 unfolding readText readLines readBy
 refused-line-fits text n at = go (exceeds (length text) mostText) refl (check start (parsedLines text)) refl
   where
-    go : (long : Bool) → exceeds (length text) mostText ≡ long → (v : Verdict) → check start (parsedLines text) ≡ v →
+    go : (long : Bool) → exceeds (length text) mostText ≡ long → (v : CheckedText) → check start (parsedLines text) ≡ v →
         cond long (refused 5 0) (readBy v (contentOf (framesOf (parsedLines text)))) ≡ refused n at → at ≤ mostText + 1
     go true l v e q = let same : 0 ≡ at = cc in omega arith
     go false l (Refused m k) e q =

@@ -12,8 +12,8 @@ use Rattle.answers.specs.Sizes.{mostText}
 use Rattle.answers.specs.Rows.{exceeds}
 use Rattle.tables.specs.Sheet.{Sheet, Sound}
 use Rattle.frames.specs.declared.Parsed.the-variants.{Good}
-use Rattle.frames.specs.declared.Verdict.{Verdict}
-use Rattle.frames.specs.declared.Verdict.the-variants.{Refused, Accepted}
+use Rattle.frames.specs.declared.CheckedText.{CheckedText}
+use Rattle.frames.specs.declared.CheckedText.the-variants.{Refused, Accepted}
 use Rattle.frames.specs.Frame.{textOf}
 use Rattle.frames.specs.Check.{start, check, parsedLines, framesOf}
 use Rattle.frames.proofs.Frames.{text-written}
@@ -28,7 +28,7 @@ use Rattle.text.proofs.Added.{content-back}
 use Rattle.text.proofs.Size.{text-fits, frames-bytes}
 
 -- only a text within its size that passes is accepted, as what its frames say
-accepted-as : (long : Bool) (v : Verdict) (said t : Sheet) → cond long (refused 5 0) (readBy v said) ≡ accepted t → (v ≡ Accepted) × (said ≡ t)
+accepted-as : (long : Bool) (v : CheckedText) (said t : Sheet) → cond long (refused 5 0) (readBy v said) ≡ accepted t → (v ≡ Accepted) × (said ≡ t)
 unfolding readBy
 accepted-as false Accepted said t e = (refl, cc)
 accepted-as false (Refused n line) said t e = let z : _≡_ {A = ℕ} 0 1 = cc in absurd (omega arith)

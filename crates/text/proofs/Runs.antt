@@ -15,7 +15,7 @@ use Rattle.frames.specs.declared.Frame.{Frame}
 use Rattle.frames.specs.declared.Frame.the-variants.{Assign, Permit, Separate}
 use Rattle.frames.specs.declared.Parsed.the-variants.{Good}
 use Rattle.frames.specs.declared.Passed.{Passed}
-use Rattle.frames.specs.declared.Verdict.the-variants.{Accepted}
+use Rattle.frames.specs.declared.CheckedText.the-variants.{Accepted}
 use Rattle.frames.specs.Frame.{key}
 use Rattle.frames.specs.Check.{passed, next, misplaced, oversized, outOfRange, tooMany, miscounted, check}
 use Rattle.frames.proofs.Checks.{Fine, frame-passes}
@@ -46,13 +46,13 @@ run-append (assigns hs hr up rest) b = assigns hs hr up (run-append rest b)
 run-append (permits hr ho some mode up rest) b = permits hr ho some mode up (run-append rest b)
 
 -- after the header
-pub record Ready (k : Passed) (c : Counts) : Type 0 where
+pub record Begun (k : Passed) (c : Counts) : Type 0 where
   pub going : k .ended ≡ false
   pub begun : 0 < k .lines
   pub counted : k .counts ≡ c
 
-module _ (k : Passed) (c : Counts) (q : Ready k c) where
-  ready-after : (last separations : ℕ) → Ready (passed (k .lines + 1) (k .ended) (k .counts) last separations) c
+module _ (k : Passed) (c : Counts) (q : Begun k c) where
+  ready-after : (last separations : ℕ) → Begun (passed (k .lines + 1) (k .ended) (k .counts) last separations) c
   ready-after last separations = record { going = q .going; begun = omega arith; counted = q .counted }
 
   -- a frame that is no header
@@ -91,7 +91,7 @@ end-passes : (k : Passed) (n : ℕ) → check (next k (closing n)) [] ≡ Accept
 unfolding closing next check
 end-passes k n = refl
 
-pub run-passes : {c : Counts} {lo hi m : ℕ} {fs : List Frame} → Run c lo hi m fs → (k : Passed) (n : ℕ) → Ready k c →
+pub run-passes : {c : Counts} {lo hi m : ℕ} {fs : List Frame} → Run c lo hi m fs → (k : Passed) (n : ℕ) → Begun k c →
     k .last < lo → hi ≤ lineKey 5 0 0 → k .separations + m ≤ mostSeparations → k .lines + length fs ≡ n →
     check k (map Good (fs ++ (closing n ∷ []))) ≡ Accepted
 unfolding next

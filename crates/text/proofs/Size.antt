@@ -84,8 +84,8 @@ module _ (t : Sheet) (p : Sound t) where
         p .separations-fit,
         p .assignment-size,
         p .permission-size,
-        mul-le-mul (p .subjects-fit) (p .roles-fit),
-        mul-le-mul (p .roles-fit) (p .objects-fit),
+        mul-le-mul (p .counts-fit .subjects) (p .counts-fit .roles),
+        mul-le-mul (p .counts-fit .roles) (p .counts-fit .objects),
       )
 
   pub text-fits : length (writeSheet t) ≤ mostText
@@ -95,7 +95,7 @@ module _ (t : Sheet) (p : Sound t) where
   pub frames-bytes : FrameBytes (framesIn t)
   unfolding framesIn opened FrameBytes Bytes frameBytes closing
   frames-bytes = (
-    omega (arith, p .subjects-fit, p .objects-fit, p .roles-fit),
-    run-bytes (t .counts) (p .subjects-fit) (p .objects-fit) (p .roles-fit) (body-run t p)
+    omega (arith, p .counts-fit .subjects, p .counts-fit .objects, p .counts-fit .roles),
+    run-bytes (t .counts) (p .counts-fit .subjects) (p .counts-fit .objects) (p .counts-fit .roles) (body-run t p)
         (closing (length (opened t))) (omega (arith, lines-few (body t), body-fits)),
   )

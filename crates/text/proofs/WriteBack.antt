@@ -9,7 +9,7 @@ use Rattle.tables.specs.Sheet.{Sheet, Sound, entities, from, to, pairKey, separ
 use Rattle.frames.specs.declared.Frame.{Frame}
 use Rattle.frames.specs.declared.Frame.the-variants.{Header}
 use Rattle.frames.specs.declared.Parsed.the-variants.{Good}
-use Rattle.frames.specs.declared.Verdict.the-variants.{Accepted}
+use Rattle.frames.specs.declared.CheckedText.the-variants.{Accepted}
 use Rattle.frames.specs.Frame.{key}
 use Rattle.frames.specs.Check.{start, next, misplaced, outOfRange, tooMany, miscounted, check}
 use Rattle.frames.proofs.Checks.{Fine, frame-passes}
@@ -81,7 +81,7 @@ module _ (t : Sheet) (p : Sound t) where
 
   assigned-run : Run (t .counts) (lineKey 2 0 0) (lineKey 3 0 0) 0 (present (assignAt R) 0 (t .assignment))
   assigned-run =
-      present-run (t .counts) 2 S R 1 (assignAt R) (omega (arith, p .subjects-fit)) (omega (arith, p .roles-fit)) put-assign
+      present-run (t .counts) 2 S R 1 (assignAt R) (omega (arith, p .counts-fit .subjects)) (omega (arith, p .counts-fit .roles)) put-assign
       (t .assignment) 0 (lineKey 2 0 0) (omega (arith, p .assignment-size)) (p .assignment-bytes) (λ l. place-low 2 R 0) (omega arith)
 
   put-permit : (i v lo hi : ℕ) (fs : List Frame) → i < R * O → 1 ≤ v → v ≤ 3 → lo ≤ place 3 O i →
@@ -91,12 +91,12 @@ module _ (t : Sheet) (p : Sound t) where
 
   permitted-run : Run (t .counts) (lineKey 3 0 0) (lineKey 4 0 0) 0 (present (permitAt O) 0 (t .permission))
   permitted-run =
-      present-run (t .counts) 3 R O 3 (permitAt O) (omega (arith, p .roles-fit)) (omega (arith, p .objects-fit)) put-permit
+      present-run (t .counts) 3 R O 3 (permitAt O) (omega (arith, p .counts-fit .roles)) (omega (arith, p .counts-fit .objects)) put-permit
       (t .permission) 0 (lineKey 3 0 0) (omega (arith, p .permission-size)) (p .permission-bytes) (λ l. place-low 3 O 0) (omega arith)
 
   separated-run : Run (t .counts) (lineKey 4 0 0) (lineKey 5 0 0) (p .count) (separateFrames (t .separations))
   separated-run =
-      separates-run (t .counts) (omega (arith, p .subjects-fit, p .objects-fit)) (t .separations) (p .count) (lineKey 4 0 0)
+      separates-run (t .counts) (omega (arith, p .counts-fit .subjects, p .counts-fit .objects)) (t .separations) (p .count) (lineKey 4 0 0)
       (p .separations-size) (p .separations-below) (p .separations-ascend) (λ l. omega arith) (omega arith)
 
   pub body-run : Run (t .counts) (lineKey 2 0 0) (lineKey 5 0 0) (p .count) (body t)
@@ -109,7 +109,7 @@ module _ (t : Sheet) (p : Sound t) where
       record {
         not-ended = refl;
         in-place = refl;
-        not-oversized = header-fits S O R .1 (p .subjects-fit, p .objects-fit, p .roles-fit);
+        not-oversized = header-fits S O R .1 (p .counts-fit .subjects, p .counts-fit .objects, p .counts-fit .roles);
         in-range = refl;
         ascends = omega arith;
         not-too-many = refl;
@@ -121,4 +121,4 @@ module _ (t : Sheet) (p : Sound t) where
   frames-pass =
       frame-passes start (Header S O R) _ fine-header
       (run-passes body-run (next start (Header S O R)) (length (opened t)) (record { going = refl; begun = omega arith; counted = refl })
-      (omega (arith, p .subjects-fit, p .objects-fit)) (omega arith) (omega (arith, p .separations-fit)) (omega arith))
+      (omega (arith, p .counts-fit .subjects, p .counts-fit .objects)) (omega arith) (omega (arith, p .separations-fit)) (omega arith))

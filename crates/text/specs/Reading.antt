@@ -6,8 +6,8 @@ use lib.ListN.{length}
 use Rattle.answers.specs.Sizes.{mostText}
 use Rattle.answers.specs.Rows.{exceeds}
 use Rattle.tables.specs.Sheet.{Sheet}
-use Rattle.frames.specs.declared.Verdict.{Verdict}
-use Rattle.frames.specs.declared.Verdict.the-variants.{Refused, Accepted}
+use Rattle.frames.specs.declared.CheckedText.{CheckedText}
+use Rattle.frames.specs.declared.CheckedText.the-variants.{Refused, Accepted}
 use Rattle.frames.specs.Check.{start, check, parsedLines, framesOf}
 use Rattle.text.specs.Content.{contentOf}
 
@@ -17,7 +17,7 @@ pub data Read : Type 0 where
   accepted : Sheet → Read
 
 -- the sheet counts only where no line is refused
-unfoldable pub readBy : Verdict → Sheet → Read
+unfoldable pub readBy : CheckedText → Sheet → Read
 readBy (Refused n line) t = refused n line
 readBy Accepted t = accepted t
 

@@ -5,9 +5,10 @@ use mathlib.Core.List.{List, [], _∷_, _++_}
 use native.Mathlib.Omega.{arith}
 use lib.ListN.{length}
 use Rattle.theory.specs.Flow.{Flow, here, step}
-use Rattle.theory.specs.Chain.{Chain, alone, link, NotAfter, ended, less, equal, Best}
-use Rattle.theory.proofs.Flows.{Has, Inside, flow-cons}
-use Rattle.theory.proofs.Distinct.{Absent, nowhere, further, Distinct, empty, more, AllBelow, none, next}
+use Rattle.theory.specs.Chain.{Chain, alone, link, NotAfter, ended, less, equal, Best, Absent, nowhere, further, Distinct, empty, more}
+use Rattle.theory.proofs.Flows.{flow-cons}
+use Rattle.theory.proofs.Distinct.{AllBelow, none, next}
+use Rattle.theory.specs.Laws.{Contains, Inside}
 
 -- a chain ends where it starts, or goes on by a channel
 pub data Goes (ch : ℕ → ℕ → Type 0) (x y : ℕ) (l : List ℕ) : Type 0 where
@@ -83,12 +84,12 @@ module _ {ch : ℕ → ℕ → Type 0} {y : ℕ} where
       more (avoids t (λ m u. omega (arith, short m u))) (shortest-distinct t (λ m u. omega (arith, short _ (link c u))))
 
 -- ---- what holds of channels holds of their chains
-pub chain-more : {ch ch′ : ℕ → ℕ → Type 0} {x y : ℕ} {l : List ℕ} → Has ch′ ch → Chain ch x y l → Chain ch′ x y l
+pub chain-more : {ch ch′ : ℕ → ℕ → Type 0} {x y : ℕ} {l : List ℕ} → Contains ch′ ch → Chain ch x y l → Chain ch′ x y l
 chain-more has alone = alone
 chain-more has (link c t) = link (has _ _ c) (chain-more has t)
 
 -- channels of the same pairs have the same chain
-pub best-agrees : {ch ch′ : ℕ → ℕ → Type 0} {x y : ℕ} {l : List ℕ} → Has ch′ ch → Has ch ch′ → Best ch x y l → Best ch′ x y l
+pub best-agrees : {ch ch′ : ℕ → ℕ → Type 0} {x y : ℕ} {l : List ℕ} → Contains ch′ ch → Contains ch ch′ → Best ch x y l → Best ch′ x y l
 best-agrees to back b =
     record {
       chain = chain-more to (b .chain);

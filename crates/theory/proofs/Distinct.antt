@@ -5,16 +5,7 @@ use mathlib.Core.List.{List, [], _∷_}
 use native.Mathlib.Decide.{ℕ-discrete}
 use native.Mathlib.Omega.{arith}
 use lib.ListN.{length}
-
--- a stands nowhere in the list
-pub data Absent (a : ℕ) : List ℕ → Type 0 where
-  nowhere : Absent a []
-  further : {b : ℕ} {l : List ℕ} → (b ≡ a → ⊥) → Absent a l → Absent a (b ∷ l)
-
--- no number stands twice
-pub data Distinct : List ℕ → Type 0 where
-  empty : Distinct []
-  more : {a : ℕ} {l : List ℕ} → Absent a l → Distinct l → Distinct (a ∷ l)
+use Rattle.theory.specs.Chain.{Absent, nowhere, further, Distinct, empty, more}
 
 -- each number is below n
 pub data AllBelow (n : ℕ) : List ℕ → Type 0 where

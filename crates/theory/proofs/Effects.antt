@@ -8,8 +8,8 @@ use Rattle.answers.specs.Rows.{Mark, one, none}
 use Rattle.answers.proofs.Marks.{one-mark, mark-agrees}
 use Rattle.theory.specs.Flow.{Flow, here, step}
 use Rattle.theory.specs.Effect.{Gained, Lost, Effect}
-use Rattle.theory.specs.Laws.{Agree}
-use Rattle.theory.proofs.Flows.{Has, flow-more, flow-then}
+use Rattle.theory.specs.Laws.{Agree, Contains}
+use Rattle.theory.proofs.Flows.{flow-more, flow-then}
 use Rattle.theory.proofs.Orders.{agree-turned}
 
 pub one-effect : {n : ℕ} {R R′ : ℕ → ℕ → Type 0} {x a b : ℕ} → Effect n R R′ x a → Effect n R R′ x b → a ≡ b
@@ -64,10 +64,10 @@ module _ {n : ℕ} {R R′ : ℕ → ℕ → Type 0} {x e : ℕ} (effect : Effec
 
 -- ---- channels that only come, or only go
 module _ {n x e : ℕ} {ch ch′ : ℕ → ℕ → Type 0} (hx : x < n) (change : Effect n (Flow ch) (Flow ch′) x e) where
-  pub adding-loses-nothing : Has ch′ ch → (e ≡ 0) ⊎ (e ≡ 1)
+  pub adding-loses-nothing : Contains ch′ ch → (e ≡ 0) ⊎ (e ≡ 1)
   adding-loses-nothing more = only-gained change (λ g. g .lacked (flow-more more _ _ (g .has)))
 
-  pub taking-gains-nothing : Has ch ch′ → (e ≡ 0) ⊎ (e ≡ 2)
+  pub taking-gains-nothing : Contains ch ch′ → (e ≡ 0) ⊎ (e ≡ 2)
   taking-gains-nothing fewer = only-lost change (λ g. g .lacked (flow-more fewer _ _ (g .has)))
 
 -- ---- channels that turn round at v: those that go all start there, and those that come all end there

@@ -7,9 +7,9 @@ use native.Mathlib.Omega.{arith}
 use lib.ListN.{length}
 use Rattle.theory.specs.Flow.{Flow}
 use Rattle.theory.specs.Chain.{Chain, alone, link, NotAfter, equal, Best}
-use Rattle.theory.proofs.Flows.{Inside}
 use Rattle.theory.proofs.Distinct.{distinct-fits}
 use Rattle.theory.proofs.Chains.{chain-flow, flow-chain, Goes, ends, on, chain-goes, chain-long, chain-less, chain-inside, only-alone, shortest-distinct}
+use Rattle.theory.specs.Laws.{Inside}
 
 -- ---- the smallest number below n with P
 pub data First (P : ℕ → Type 0) (n : ℕ) : Type 0 where

@@ -7,8 +7,7 @@ use lib.ListN.{length, drop, length-append}
 use Rattle.answers.specs.Rows.{at, Mark, Marked, Bytes, Filled, over}
 use Rattle.answers.proofs.Marks.{mark-agrees, marked-yes, mark-of}
 use Rattle.answers.proofs.Tables.{at-over}
-use Rattle.theory.specs.Laws.{Agree}
-use Rattle.theory.proofs.Flows.{Has, Inside}
+use Rattle.theory.specs.Laws.{Agree, Contains, Inside}
 
 -- bytes of a table join entities below n only
 pub bytes-inside : (n : ℕ) (table : List ℕ) → Inside n (Bytes n table)
@@ -20,10 +19,10 @@ module _ {n : ℕ} {ch : ℕ → ℕ → Type 0} {table channels : List ℕ} (fi
   byte-is : {x y : ℕ} → x < n → y < n → at channels n x y ≡ at table n x y
   byte-is h l = rw written (at-over table buffer (filled .size) h l)
 
-  pub bytes-to : Has ch (Bytes n channels)
+  pub bytes-to : Contains ch (Bytes n channels)
   bytes-to a b c = marked-yes (filled .bytes a b (c .source) (c .target)) (rw (byte-is (c .source) (c .target)) at (c .byte))
 
-  pub bytes-from : Inside n ch → Has (Bytes n channels) ch
+  pub bytes-from : Inside n ch → Contains (Bytes n channels) ch
   bytes-from inside a b c =
       let i = inside a b c in
       record { source = i .0; target = i .1; byte = byte-is (i .0) (i .1) ∙ mark-of (filled .bytes a b (i .0) (i .1)) c }
@@ -47,7 +46,7 @@ module _ {n : ℕ} {R : ℕ → ℕ → Type 0} {before after : List ℕ} (f : F
   filled-room = rw (f .written) (omega (arith, length-append (f .table) (drop (length (f .table)) before), f .marked .size))
 
 -- a table filled for one relation is filled for another with the same pairs
-pub filled-agrees : {n : ℕ} {R R′ : ℕ → ℕ → Type 0} {before after : List ℕ} → Has R′ R → Has R R′ → Filled n R before after → Filled n R′ before after
+pub filled-agrees : {n : ℕ} {R R′ : ℕ → ℕ → Type 0} {before after : List ℕ} → Contains R′ R → Contains R R′ → Filled n R before after → Filled n R′ before after
 filled-agrees to back f =
     record {
       table = f .table;

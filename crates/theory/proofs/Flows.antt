@@ -1,20 +1,7 @@
 -- Laws of flow, for any relation of channels.
 use Prim.Native.Nat.{ℕ, _<_}
 use Rattle.theory.specs.Flow.{Flow, here, step}
-
--- R has each channel
-abbrev pub Has : (R ch : ℕ → ℕ → Type 0) → Type 0
-Has R ch = (a b : ℕ) → ch a b → R a b
-
-abbrev pub Reflexive : (ℕ → ℕ → Type 0) → Type 0
-Reflexive R = (x : ℕ) → R x x
-
-abbrev pub Transitive : (ℕ → ℕ → Type 0) → Type 0
-Transitive R = (x y z : ℕ) → R x y → R y z → R x z
-
--- channels join entities below n only
-abbrev pub Inside : ℕ → (ℕ → ℕ → Type 0) → Type 0
-Inside n ch = (a b : ℕ) → ch a b → (a < n) × (b < n)
+use Rattle.theory.specs.Laws.{Contains, Reflexive, Transitive, Inside}
 
 module _ {ch : ℕ → ℕ → Type 0} where
   pub flow-reflexive : Reflexive (Flow ch)
@@ -27,7 +14,7 @@ module _ {ch : ℕ → ℕ → Type 0} where
   pub flow-transitive : Transitive (Flow ch)
   flow-transitive x y z f g = flow-then f g
 
-  pub flow-has : Has (Flow ch) ch
+  pub flow-has : Contains (Flow ch) ch
   flow-has a b c = step here c
 
   -- a channel in front of a chain
@@ -45,7 +32,7 @@ module _ {ch : ℕ → ℕ → Type 0} where
   flow-closed-back P py closed (step f c) = flow-closed-back P (closed _ _ py c) closed f
 
   -- flow is the smallest such relation
-  pub flow-smallest : (R : ℕ → ℕ → Type 0) → Reflexive R → Transitive R → Has R ch → {x y : ℕ} → Flow ch x y → R x y
+  pub flow-smallest : (R : ℕ → ℕ → Type 0) → Reflexive R → Transitive R → Contains R ch → {x y : ℕ} → Flow ch x y → R x y
   flow-smallest R same through has {x} f = flow-closed (R x) (same x) (λ a b r c. through x a b r (has a b c)) f
 
   -- from an entity below n to an entity below n
@@ -53,6 +40,6 @@ module _ {ch : ℕ → ℕ → Type 0} where
   flow-inside {n} inside below f = flow-closed (λ z. z < n) below (λ a b _ c. inside a b c .1) f
 
 -- more channels, more flow
-pub flow-more : {ch ch′ : ℕ → ℕ → Type 0} → Has ch′ ch → Has (Flow ch′) (Flow ch)
+pub flow-more : {ch ch′ : ℕ → ℕ → Type 0} → Contains ch′ ch → Contains (Flow ch′) (Flow ch)
 flow-more has x y here = here
 flow-more has x y (step {z = z} f c) = step (flow-more has x z f) (has z y c)

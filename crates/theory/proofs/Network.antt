@@ -1,16 +1,18 @@
 -- A network of five entities, with channels 0 to 1, 1 to 2, 2 to 3 and 3 to 2: what the definitions say of it.
 use Prim.Native.Nat.{ℕ, zero, suc, _≤_, _<_}
 use mathlib.Core.Path.{_≡_, refl}
-use mathlib.Core.List.{[], _∷_}
+use mathlib.Core.List.{List, [], _∷_}
 use native.Mathlib.Omega.{arith}
-use lib.Dec.{lit<}
-use lib.ListN.{getD}
+use lib.Dec.{lit<, lit≤}
+use lib.ListN.{length, getD}
 use Rattle.answers.specs.Rows.{Mark, one, none, count}
 use Rattle.theory.specs.Flow.{Flow, here, step}
+use Rattle.theory.specs.Chain.{Chain, alone, link, NotAfter, ended, less, equal as same-first, Best}
 use Rattle.theory.specs.Order.{Label, LabelSize, Included, Equivalent, ClassBelow, ClassName, equal, below, above, incomparable, Compares, both, only-there, only-back, neither, Greatest}
 use Rattle.theory.specs.Effect.{Effect}
-use Rattle.theory.proofs.Flows.{Inside, flow-closed, flow-closed-back, flow-reflexive, flow-transitive}
+use Rattle.theory.proofs.Flows.{flow-closed, flow-closed-back, flow-reflexive, flow-transitive}
 use Rattle.theory.proofs.Orders.{theorem-1, isolated, class-named-once}
+use Rattle.theory.specs.Laws.{Inside}
 
 data Hop : ℕ → ℕ → Type 0 where
   hop01 : Hop 0 1
@@ -189,9 +191,33 @@ effect-of-1 =
         go : (a b : ℕ) → From2 a b → a ≡ 0 → ⊥
         go _ _ from2 e = omega arith
 
--- one that only gains
-effect-of-gain : Effect 3 Hop Hop 1 0
+-- ---- no channel before and one from 0 to 1 after: 1 gains; the other way round it loses
+abbrev Nowhere : ℕ → ℕ → Type 0
+Nowhere a b = ⊥
+
+effect-of-gain : Effect 3 Nowhere From0 1 1
 effect-of-gain =
+    record {
+      gain = 1;
+      loss = 0;
+      gained = one refl (record { entity = 0; below = lit< tt; lacked = λ c. c; has = from0 });
+      lost = none refl (λ g. g .has);
+      summed = refl;
+    }
+
+effect-of-loss : Effect 3 From0 Nowhere 1 2
+effect-of-loss =
+    record {
+      gain = 0;
+      loss = 1;
+      gained = none refl (λ g. g .has);
+      lost = one refl (record { entity = 0; below = lit< tt; lacked = λ c. c; has = from0 });
+      summed = refl;
+    }
+
+-- no change at all
+effect-of-nothing : Effect 3 Hop Hop 1 0
+effect-of-nothing =
     record {
       gain = 0;
       loss = 0;
@@ -199,3 +225,41 @@ effect-of-gain =
       lost = none refl (λ g. g .lacked (g .has));
       summed = refl;
     }
+
+-- ---- two shortest chains from 0 to 3, by 1 and by 2: the one that is shown goes by 1
+data Fork : ℕ → ℕ → Type 0 where
+  fork01 : Fork 0 1
+  fork02 : Fork 0 2
+  fork13 : Fork 1 3
+  fork23 : Fork 2 3
+
+from-3 : {b : ℕ} → Fork 3 b → ⊥
+from-3 c = go c refl
+  where
+    go : {a b : ℕ} → Fork a b → a ≡ 3 → ⊥
+    go fork01 e = omega arith
+    go fork02 e = omega arith
+    go fork13 e = omega arith
+    go fork23 e = omega arith
+
+data ByOneOrTwo : List ℕ → Type 0 where
+  by-1 : ByOneOrTwo (0 ∷ 1 ∷ 3 ∷ [])
+  by-2 : ByOneOrTwo (0 ∷ 2 ∷ 3 ∷ [])
+
+only-two : {m : List ℕ} → Chain Fork 0 3 m → ByOneOrTwo m
+only-two (link fork01 (link fork13 alone)) = by-1
+only-two (link fork01 (link fork13 (link c t))) = absurd (from-3 c)
+only-two (link fork02 (link fork23 alone)) = by-2
+only-two (link fork02 (link fork23 (link c t))) = absurd (from-3 c)
+
+smallest-of-two : Best Fork 0 3 (0 ∷ 1 ∷ 3 ∷ [])
+smallest-of-two =
+    record { chain = link fork01 (link fork13 alone); shortest = λ m c. short (only-two c); smallest = λ m c e. first (only-two c) }
+  where
+    short : {m : List ℕ} → ByOneOrTwo m → 3 ≤ length m
+    short by-1 = lit≤ tt
+    short by-2 = lit≤ tt
+
+    first : {m : List ℕ} → ByOneOrTwo m → NotAfter (0 ∷ 1 ∷ 3 ∷ []) m
+    first by-1 = same-first (same-first (same-first ended))
+    first by-2 = same-first (less (lit< tt))

@@ -20,3 +20,13 @@ pub record Best (ch : ℕ → ℕ → Type 0) (x y : ℕ) (l : List ℕ) : Type 
   pub chain : Chain ch x y l
   pub shortest : (m : List ℕ) → Chain ch x y m → length l ≤ length m
   pub smallest : (m : List ℕ) → Chain ch x y m → length m ≡ length l → NotAfter l m
+
+-- no entity of the list is w
+pub data Absent (a : ℕ) : List ℕ → Type 0 where
+  nowhere : Absent a []
+  further : {b : ℕ} {l : List ℕ} → (b ≡ a → ⊥) → Absent a l → Absent a (b ∷ l)
+
+-- none stands twice
+pub data Distinct : List ℕ → Type 0 where
+  empty : Distinct []
+  more : {a : ℕ} {l : List ℕ} → Absent a l → Distinct l → Distinct (a ∷ l)

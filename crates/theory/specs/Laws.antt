@@ -5,6 +5,22 @@ use mathlib.Core.List.{List}
 use Rattle.theory.specs.Flow.{Flow}
 use Rattle.theory.specs.Order.{Label, LabelSize, Included, Equivalent, ClassBelow, ClassName, Order, Compares, Greatest}
 
+-- "the reflexive, transitive closure of channel": a relation that has each channel
+abbrev pub Contains : (R ch : ℕ → ℕ → Type 0) → Type 0
+Contains R ch = (a b : ℕ) → ch a b → R a b
+
+-- in which each is related to itself
+abbrev pub Reflexive : (ℕ → ℕ → Type 0) → Type 0
+Reflexive R = (x : ℕ) → R x x
+
+-- and to what it is related to by way of another
+abbrev pub Transitive : (ℕ → ℕ → Type 0) → Type 0
+Transitive R = (x y z : ℕ) → R x y → R y z → R x z
+
+-- channels join entities below n only
+abbrev pub Inside : ℕ → (ℕ → ℕ → Type 0) → Type 0
+Inside n ch = (a b : ℕ) → ch a b → (a < n) × (b < n)
+
 -- 000, theorem 1: x flows to y; x's class is below or equal to y's; x's label is included in y's
 pub record Theorem1 (n : ℕ) (ch : ℕ → ℕ → Type 0) (x y : ℕ) : Type 0 where
   pub to-class : Flow ch x y → ClassBelow n (Flow ch) x y

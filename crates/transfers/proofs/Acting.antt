@@ -9,8 +9,8 @@ use Rattle.answers.specs.Rows.{Bytes, Filled}
 use Rattle.tables.specs.declared.Counts.{Counts}
 use Rattle.tables.specs.Sheet.{entities}
 use Rattle.theory.specs.Flow.{Flow}
-use Rattle.theory.specs.Laws.{Agree}
-use Rattle.theory.proofs.Flows.{Inside}
+use Rattle.theory.specs.Order.{InLabel}
+use Rattle.theory.specs.Laws.{Agree, Inside}
 use Rattle.theory.proofs.Filled.{bytes-agree}
 use Rattle.transfers.specs.declared.Act.{Act}
 use Rattle.transfers.specs.declared.Act.the-variants.{Moves}
@@ -80,5 +80,5 @@ module _ {c : Counts} {ch : ℕ → ℕ → Type 0} {buffer channels : List ℕ}
 
 -- ---- demand 3's first half, of these transfers: "an entity whose label lacks x ends with equal marks"
 pub transfers-lack : {n x y : ℕ} {c : Counts} {ch : ℕ → ℕ → Type 0} {marks marks′ : List ℕ} {ts : List Transfer} {acts : List Act} → Inside n ch → y < n →
-    Starts n x marks marks′ → n ≤ length marks → AllCome (Comes c ch) ts acts → (Flow ch x y → ⊥) → getD (after acts marks) y 0 ≡ getD (after acts marks′) y 0
+    Starts n x marks marks′ → n ≤ length marks → AllCome (Comes c ch) ts acts → (InLabel (Flow ch) y x → ⊥) → getD (after acts marks) y 0 ≡ getD (after acts marks′) y 0
 transfers-lack inside below s room come lacks = label-lacks inside below s room comes-along come lacks

@@ -10,7 +10,6 @@ use lib.Seq.{take-at}
 use Rattle.answers.specs.Call.{Refusal, firstRefusal, Outcome}
 use Rattle.answers.specs.Rows.{over}
 use Rattle.theory.specs.Flow.{Flow, here}
-use Rattle.theory.proofs.Flows.{Inside}
 use Rattle.transfers.specs.declared.Act.{Act}
 use Rattle.transfers.specs.declared.Tally.{Tally}
 use Rattle.transfers.specs.Acts.{verdictBytes, AllCome, Along, OneAct}
@@ -19,6 +18,7 @@ use Rattle.transfers.specs.Demand3.{Starts, Alike}
 use Rattle.transfers.proofs.Moving.{come-length}
 use Rattle.transfers.proofs.Determined.{one-list}
 use Rattle.transfers.proofs.TwoRuns.{label-lacks}
+use Rattle.theory.specs.Laws.{Inside}
 
 -- a verdict byte for each transfer stands at the start of the buffer
 pub list-verdicts : {T : Type 0} {comes : T → Act → Type 0} {ts : List T} {acts : List Act} → AllCome comes ts acts →

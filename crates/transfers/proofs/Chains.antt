@@ -11,13 +11,13 @@ use Rattle.answers.specs.Rows.{count}
 use Rattle.tables.specs.Sheet.{entities}
 use Rattle.theory.specs.Chain.{Chain, alone, link}
 use Rattle.theory.proofs.Chains.{chain-long}
-use Rattle.access.proofs.Channels.{TwoSided}
 use Rattle.transfers.specs.declared.Transfer.{Transfer}
-use Rattle.transfers.specs.Acts.{verdict, verdictBytes, AllCome, none, next}
+use Rattle.transfers.specs.Acts.{verdictByte, verdictBytes, AllCome, none, next}
 use Rattle.transfers.specs.Transfers.{transfer, Way, toSubject, toObject, Comes, moves, flatBytes}
-use Rattle.transfers.specs.Demand3.{transferOf, chainTransfers}
+use Rattle.transfers.specs.Demand3.{transferOf, chainTransfers, chainMoves}
 use Rattle.transfers.proofs.FlatBytes.{Bytes, flat-bytes}
-use Rattle.transfers.proofs.Labels.{chainMoves, chain-moves}
+use Rattle.transfers.proofs.Labels.{chain-moves}
+use Rattle.access.specs.Channel.{TwoSided}
 
 -- the transfer from a to b goes that way
 transfer-way : {c : Counts} {a b : ℕ} → TwoSided c a b → Way c (transferOf c a b) a b
@@ -73,7 +73,7 @@ count-zeros (suc n) = omega (arith, count-zeros n)
 module _ {ch : ℕ → ℕ → Type 0} {y : ℕ} where
   -- every verdict byte is 0
   pub chain-verdicts : {x : ℕ} {l : List ℕ} → Chain ch x y l → verdictBytes (chainMoves l) ≡ replicate (length l - 1) 0
-  unfolding chainMoves verdictBytes verdict
+  unfolding chainMoves verdictBytes verdictByte
   chain-verdicts alone = refl
   chain-verdicts {x} (link {l = l} h t) =
       let longer : suc (length l) - 1 ≡ suc (length l - 1) = omega (arith, chain-long t) in

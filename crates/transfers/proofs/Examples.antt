@@ -11,7 +11,7 @@ use Rattle.answers.specs.Rows.{over, count}
 use Rattle.tables.specs.Sheet.{counts}
 use Rattle.transfers.specs.declared.Act.the-variants.{Moves, OutOfRange, NotPermitted}
 use Rattle.transfers.specs.declared.Transfer.{Transfer}
-use Rattle.transfers.specs.Acts.{verdict, verdictBytes, plus, acted, after, AllCome, none, next}
+use Rattle.transfers.specs.Acts.{verdictByte, verdictBytes, plus, acted, after, AllCome, none, next}
 use Rattle.transfers.specs.Transfers.{transfer, flatTransfers, Way, toSubject, toObject, Comes, moves, outside, barred, flatBytes}
 use Rattle.transfers.specs.Rehearse.{tally, newTally, raised, notRehearsed, rehearsed, Rehearses, tallyRefusals}
 use Rattle.transfers.specs.Demand3.{transferOf, chainTransfers}
@@ -43,7 +43,7 @@ record Marking : Type 0 where
   never-entered : share (Moves 2 1 ∷ Moves 0 2 ∷ []) 0 1 ≡ 0
 
 marking : Marking
-unfolding after acted plus verdictBytes verdict share
+unfolding after acted plus verdictBytes verdictByte share
 marking =
     record {
       wraps = refl;
@@ -114,7 +114,7 @@ seven-rehearsed : Rehearses (Comes few Hop) seven (7 ∷ 0 ∷ 0 ∷ []) (9 ∷ 
   verdicts = 0 ∷ 10 ∷ 16 ∷ 0 ∷ 10 ∷ 10 ∷ 10 ∷ 8 ∷ 7 ∷ [];
   tally = tally 102 204 301;
 }
-unfolding rehearsed after acted plus verdictBytes verdict over count raised
+unfolding rehearsed after acted plus verdictBytes verdictByte over count raised
 seven-rehearsed = record { acts = _; come = all-come; result-is = refl }
 
 -- ---- flat bytes, three each, and the transfers of a chain

@@ -12,11 +12,11 @@ use Rattle.transfers.specs.declared.Act.the-variants.{Moves, OutOfRange}
 use Rattle.transfers.specs.Acts.{after, AllCome, none, next, Along, OneAct}
 use Rattle.transfers.specs.Transfers.{flatBytes}
 use Rattle.transfers.specs.Rehearse.{newTally, Rehearsed, rehearsed, Rehearses}
-use Rattle.transfers.specs.Demand3.{chainTransfers, Alike, Reached}
+use Rattle.transfers.specs.Demand3.{chainTransfers, Alike, Reached, chainMoves}
 use Rattle.transfers.proofs.Moving.{AllMove}
 use Rattle.transfers.proofs.Acting.{comes-along, one-act}
 use Rattle.transfers.proofs.Shares.{share, weighed}
-use Rattle.transfers.proofs.Labels.{chainMoves, chain-along, share-outside, share-along}
+use Rattle.transfers.proofs.Labels.{chain-along, share-outside, share-along}
 use Rattle.transfers.proofs.TwoRuns.{final-mark, label-lacks, label-holds}
 use Rattle.transfers.proofs.Chains.{chain-comes, chain-bytes}
 use Rattle.transfers.proofs.AlikeRuns.{outcomes-alike}

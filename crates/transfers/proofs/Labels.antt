@@ -6,13 +6,13 @@ use mathlib.Core.List.{List, [], _∷_}
 use lib.Dec.{eqb}
 use borrow.Author.Tests.{eqb-true, eq-eqb, ne-eqb}
 use Rattle.theory.specs.Flow.{Flow, here}
-use Rattle.theory.specs.Chain.{Chain, alone, link}
+use Rattle.theory.specs.Chain.{Chain, alone, link, Absent, nowhere, further, Distinct, more}
 use Rattle.theory.proofs.Flows.{flow-cons}
-use Rattle.theory.proofs.Distinct.{Absent, nowhere, further, Distinct, more}
 use Rattle.transfers.specs.declared.Act.{Act}
 use Rattle.transfers.specs.declared.Act.the-variants.{Moves}
 use Rattle.transfers.proofs.Moving.{AllMove, still, move, skip-outside, skip-barred}
 use Rattle.transfers.proofs.Shares.{share}
+use Rattle.transfers.specs.Demand3.{chainMoves}
 
 -- ---- outside y's label
 -- a number that is 0 wherever a and b are equal
@@ -34,12 +34,6 @@ share-outside (skip-outside rest) x y lacks = share-outside rest x y lacks
 share-outside (skip-barred rest) x y lacks = share-outside rest x y lacks
 
 -- ---- along a chain
--- a move from each entity of the chain to the next
-unfoldable pub chainMoves : List ℕ → List Act
-chainMoves [] = []
-chainMoves (a ∷ []) = []
-chainMoves (a ∷ b ∷ l) = Moves a b ∷ chainMoves (b ∷ l)
-
 module _ {ch : ℕ → ℕ → Type 0} {y : ℕ} where
   -- what stands in front of a chain moves to its first entity
   pub chain-moves : {z : ℕ} {l : List ℕ} (x : ℕ) → Chain ch z y l → chainMoves (x ∷ l) ≡ Moves x z ∷ chainMoves l

@@ -5,18 +5,17 @@ use mathlib.Core.Path.{_≡_, refl, sym, ap, _∙_}
 use mathlib.Core.List.{List}
 use lib.ListN.{length, length-replicate}
 use Rattle.theory.specs.Chain.{Chain, Best}
-use Rattle.theory.proofs.Flows.{Inside}
 use Rattle.transfers.specs.declared.Act.{Act}
 use Rattle.transfers.specs.declared.Tally.{Tally}
 use Rattle.transfers.specs.Acts.{AllCome, OneAct}
 use Rattle.transfers.specs.Rehearse.{Rehearsed, rehearsed, Rehearses}
-use Rattle.transfers.specs.Demand3.{Starts, AllApplied, Reached}
+use Rattle.transfers.specs.Demand3.{Starts, AllApplied, Reached, chainMoves}
 use Rattle.transfers.proofs.Moving.{come-length}
 use Rattle.transfers.proofs.Determined.{one-list}
-use Rattle.transfers.proofs.Labels.{chainMoves}
 use Rattle.transfers.proofs.TwoRuns.{label-holds}
 use Rattle.transfers.proofs.Chains.{chain-verdicts, chain-applied}
 use Rattle.transfers.proofs.AlikeRuns.{list-verdicts}
+use Rattle.theory.specs.Laws.{Inside}
 
 module _ {T : Type 0} {comes : T → Act → Type 0} (one : OneAct comes) {ts : List T} (l : List ℕ) (come : AllCome comes ts (chainMoves l)) where
   chain-rehearsed : {marks verdicts : List ℕ} {t : Tally} {r : Rehearsed} → Rehearses comes ts marks verdicts t r →

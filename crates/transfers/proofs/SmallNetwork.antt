@@ -8,10 +8,11 @@ use lib.Dec.{lit<, lit≤}
 use lib.ListN.{getD, replicate}
 use Rattle.theory.specs.Flow.{Flow}
 use Rattle.theory.specs.Chain.{Chain, alone, link, ended, equal, Best}
-use Rattle.theory.proofs.Flows.{Inside, flow-closed}
-use Rattle.access.proofs.Channels.{TwoSided}
+use Rattle.theory.proofs.Flows.{flow-closed}
 use Rattle.transfers.specs.Demand3.{Marks32, Starts}
 use Rattle.transfers.proofs.Examples.{Hop, written, read, few, nothing-from-1}
+use Rattle.theory.specs.Laws.{Inside}
+use Rattle.access.specs.Channel.{TwoSided}
 
 abbrev pub chain : List ℕ
 chain = 0 ∷ 2 ∷ 1 ∷ []

@@ -13,17 +13,18 @@ use lib.ListN.{length, getD}
 use lib.Seq.{getD-set-same, getD-set-other}
 use borrow.Author.Tests.{eq-eqb, ne-eqb}
 use Rattle.theory.specs.Flow.{Flow, here, step}
+use Rattle.theory.specs.Order.{InLabel}
 use Rattle.theory.specs.Chain.{Best}
-use Rattle.theory.proofs.Flows.{Inside}
 use Rattle.theory.proofs.Chains.{shortest-distinct}
 use Rattle.transfers.specs.declared.Act.{Act}
 use Rattle.transfers.specs.declared.Act.the-variants.{Moves}
 use Rattle.transfers.specs.Acts.{plus, acted, after, AllCome, Along}
-use Rattle.transfers.specs.Demand3.{Marks32, Starts}
+use Rattle.transfers.specs.Demand3.{Marks32, Starts, chainMoves}
 use Rattle.transfers.proofs.Moving.{AllMove, still, move, skip-outside, skip-barred, come-move, acted-length, acted-marks}
 use Rattle.transfers.proofs.Sums.{sum-but-one}
 use Rattle.transfers.proofs.Shares.{share, weighed, weighed-none, exchange, two-runs}
-use Rattle.transfers.proofs.Labels.{chainMoves, chain-along, share-along}
+use Rattle.transfers.proofs.Labels.{chain-along, share-along}
+use Rattle.theory.specs.Laws.{Inside}
 
 -- ---- where y's label holds x
 -- a move keeps the weighed sum, modulo 2 ^ 32
@@ -121,5 +122,5 @@ module _ {n : ℕ} {ch : ℕ → ℕ → Type 0} (inside : Inside n ch) {x : ℕ
         }
 
     pub label-lacks : {T : Type 0} {comes : T → Act → Type 0} {ts : List T} {acts : List Act} → Along comes ch → AllCome comes ts acts →
-        (Flow ch x y → ⊥) → getD (after acts marks) y 0 ≡ getD (after acts marks′) y 0
+        (InLabel (Flow ch) y x → ⊥) → getD (after acts marks) y 0 ≡ getD (after acts marks′) y 0
     label-lacks along come lacks = runs-agree (come-move along come) at-start .agree y below lacks

@@ -7,15 +7,15 @@ use Rattle.transfers.specs.declared.Act.{Act}
 use Rattle.transfers.specs.declared.Act.the-variants.{Moves, OutOfRange, NotPermitted}
 
 -- "the verdict byte is 0 .. the byte is 10; if there is no channel, 16"
-unfoldable pub verdict : Act → ℕ
-verdict (Moves a b) = 0
-verdict OutOfRange = 10
-verdict NotPermitted = 16
+unfoldable pub verdictByte : Act → ℕ
+verdictByte (Moves a b) = 0
+verdictByte OutOfRange = 10
+verdictByte NotPermitted = 16
 
 -- a verdict byte for each
 unfoldable pub verdictBytes : List Act → List ℕ
-unfolding verdict
-verdictBytes acts = map verdict acts
+unfolding verdictByte
+verdictBytes acts = map verdictByte acts
 
 -- "its old mark plus the source's mark modulo 4,294,967,296"
 unfoldable pub plus : ℕ → ℕ → ℕ

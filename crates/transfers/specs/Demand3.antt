@@ -7,7 +7,10 @@ use lib.Dec.{ltb}
 use lib.ListN.{length, getD, take, replicate}
 use Rattle.tables.specs.declared.Counts.{Counts}
 use Rattle.theory.specs.Flow.{Flow}
+use Rattle.theory.specs.Order.{InLabel}
 use Rattle.transfers.specs.declared.Transfer.{Transfer}
+use Rattle.transfers.specs.declared.Act.{Act}
+use Rattle.transfers.specs.declared.Act.the-variants.{Moves}
 use Rattle.transfers.specs.Transfers.{transfer}
 use Rattle.transfers.specs.Rehearse.{Rehearsed}
 
@@ -42,7 +45,7 @@ pub record Alike (n : ℕ) (ch : ℕ → ℕ → Type 0) (x k : ℕ) (r r′ : R
   pub same-applied : r .applied ≡ r′ .applied
   pub same-tally : r .tally ≡ r′ .tally
   pub same-verdicts : r .answer ≡ 0 → take k (r .verdicts) ≡ take k (r′ .verdicts)
-  pub same-marks : (y : ℕ) → y < n → (Flow ch x y → ⊥) → getD (r .marks) y 0 ≡ getD (r′ .marks) y 0
+  pub same-marks : (y : ℕ) → y < n → (InLabel (Flow ch) y x → ⊥) → getD (r .marks) y 0 ≡ getD (r′ .marks) y 0
 
 -- ---- the second half
 -- the transfer from entity a to entity b, of which one is a subject and one an object
@@ -54,6 +57,12 @@ unfoldable pub chainTransfers : Counts → List ℕ → List Transfer
 chainTransfers c [] = []
 chainTransfers c (a ∷ []) = []
 chainTransfers c (a ∷ b ∷ l) = transferOf c a b ∷ chainTransfers c (b ∷ l)
+
+-- the moves that these come to, one along each step
+unfoldable pub chainMoves : List ℕ → List Act
+chainMoves [] = []
+chainMoves (a ∷ []) = []
+chainMoves (a ∷ b ∷ l) = Moves a b ∷ chainMoves (b ∷ l)
 
 -- "an accepted rehearsal": of k transfers, of which each was applied
 pub record AllApplied (k : ℕ) (r : Rehearsed) : Type 0 where

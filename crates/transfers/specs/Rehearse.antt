@@ -1,7 +1,10 @@
 -- The rehearsal of a list of transfers: what it answers and leaves, and what it refuses of a tally.
 use Prim.Native.Nat.{ℕ, _+_}
 use mathlib.Core.Path.{_≡_}
+use mathlib.Core.Bool.{Bool, _||_}
 use mathlib.Core.List.{List, [], _∷_}
+use lib.Dec.{ltb}
+use Rattle.answers.specs.Sizes.{leastMarks, leastVerdicts}
 use Rattle.answers.specs.Call.{Refusal, _if_}
 use Rattle.answers.specs.Rows.{over, count, exceeds}
 use Rattle.transfers.specs.declared.Act.{Act}
@@ -19,6 +22,10 @@ newTally = tally 0 0 0
 -- "raised by its counts of 0, 10 and 16"
 unfoldable pub raised : Tally → List ℕ → Tally
 raised t verdicts = tally (t .applied + count 0 verdicts) (t .outside + count 10 verdicts) (t .barred + count 16 verdicts)
+
+-- "1 | a lent buffer is shorter than its least length": so many marks, or so many verdict bytes, are too few
+unfoldable pub rehearsalShort : (marks verdicts : ℕ) → Bool
+rehearsalShort marks verdicts = ltb marks leastMarks || ltb verdicts leastVerdicts
 
 -- the answer and the count applied; the marks, the verdict bytes and the tally afterwards
 pub record Rehearsed : Type 0 where

@@ -21,7 +21,7 @@ use Rattle.access.proofs.Channels.{channel-inside}
 use Rattle.access.proofs.Decided.{sheet-channel-decided}
 use Rattle.tables.proofs.Sounds.{entities-fit}
 use Rattle.separations.specs.declared.Judged.{Judged}
-use Rattle.separations.specs.Verdict.{judged, Verdict, hold, broken}
+use Rattle.separations.specs.Judgement.{judged, Judgement, hold, broken}
 use Rattle.verdict.specs.Judge.{judgeRefusals, Judges}
 use Rattle.verdict.specs.Inner.{Judgeable}
 use Rattle.verdict.proofs.Judging.{tables, pairs, judgeable}
@@ -65,7 +65,7 @@ module _ (l : Lent) (count : ℕ) (separations before : List ℕ) where
       record { answer = lit< tt; position = omega (arith, g .listed .few); count = omega (arith, entities-fit l (g .sized)) }
 
   small-verdict : {j : Judged} {after : List ℕ} → Judgeable l count separations before →
-      Verdict (Channel (sheetOf l count separations)) count separations before (j, after) → Small j
+      Judgement (Channel (sheetOf l count separations)) count separations before (j, after) → Small j
   small-verdict g (hold all e) = rw (ap (λ (r : Judged × List ℕ). r .0) e) (record { answer = lit< tt; position = lit< tt; count = lit≤ tt })
   small-verdict g (broken i chain p b e) = rw (ap (λ (r : Judged × List ℕ). r .0) e) (small-finding g (p .below) b)
 

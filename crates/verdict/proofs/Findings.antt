@@ -1,23 +1,29 @@
--- Demand 2, of the call: what any result tells that the contract of `judge` allows.
+-- Demand 2, of the calls: what any result tells that the contract of `judge` or of `chain` allows.
 use Prim.Native.Nat.{ℕ, _<_}
-use mathlib.Core.Path.{_≡_, sym, ap, _∙_}
+use mathlib.Core.Path.{_≡_, refl, sym, ap, _∙_}
 use mathlib.Core.Logic.{_≢_}
 use mathlib.Core.List.{List}
 use native.Mathlib.Decide.{ℕ-discrete}
 use native.Mathlib.Omega.{arith}
+use lib.ListN.{length, take}
+use Rattle.answers.specs.declared.Told.{Told}
 use Rattle.answers.specs.Call.{firstRefusal}
 use Rattle.answers.specs.Rows.{at, Mark}
 use Rattle.tables.specs.Sheet.{Lent, Sheet, sheetIn, sheetOf, entities, from, to}
+use Rattle.answers.proofs.Calls.{answered}
 use Rattle.answers.proofs.Marks.{mark-of, marked-yes}
+use Rattle.theory.specs.Flow.{Flow}
+use Rattle.theory.specs.Chain.{Best}
 use Rattle.rows.specs.Written.{FlowTable}
 use Rattle.access.specs.Channel.{Channel}
 use Rattle.separations.specs.declared.Judged.{Judged}
-use Rattle.separations.specs.Verdict.{Broken, AllHold, broken, Finding}
+use Rattle.separations.specs.Judgement.{Broken, AllHold, broken, Finding}
+use Rattle.verdict.specs.Chain.{chainRefusals, Shows}
 use Rattle.verdict.specs.Judge.{judgeRefusals, Judges}
 use Rattle.separations.proofs.Verdicts.{one-first}
 use Rattle.verdict.proofs.Bounds.{refusal-not-14}
 use Rattle.verdict.proofs.Judging.{judgeable}
-use Rattle.separations.proofs.Findings.{told-finding, told-holding, tells-broken, tells-holding, table-marks}
+use Rattle.separations.proofs.Findings.{told-finding, told-holding, tells-broken, tells-holding, chain-in-front, told-chain, tells-chain, table-marks}
 
 module _ (l : Lent) (count : ℕ) (separations before : List ℕ) (j : Judged) (after : List ℕ) (call : Judges l count separations before (j, after)) where
   -- the sheet that is judged
@@ -42,6 +48,12 @@ module _ (l : Lent) (count : ℕ) (separations before : List ℕ) (j : Judged) (
   -- "The first broken one is answered by 14, its position from 0 and its chain"
   pub finding : j .answer ≡ 14 → Finding (Channel judgedSheet) count separations before j after
   finding q = told-finding (call .done (accepted-14 q)) q
+
+  -- and the chain is the first `count` entities in the buffer
+  pub finding-chain : j .answer ≡ 14 →
+      Best (Channel judgedSheet) (from separations (j .position)) (to separations (j .position)) (take (j .count) after)
+      × (length (take (j .count) after) ≡ j .count)
+  finding-chain q = let f = finding q in chain-in-front before (f .best) (f .counted) (f .written)
 
   pub holding : j .answer ≡ 0 → AllHold (Channel judgedSheet) count separations × (after ≡ before)
   holding q = told-holding (call .done (accepted-0 q)) q
@@ -79,3 +91,11 @@ module _ (l : Lent) (count : ℕ) (separations before : List ℕ) (j : Judged) (
         let b = marked-yes (m i h) e in
         let q = broken-answered accepted i h b in
         (q, one-first (finding q .first) (record { below = h; broken = b; before = λ k g c. before-it k g (mark-of (m k (omega arith)) c) }))
+
+-- ---- `chain`: what an answer of 0 tells, and where it comes
+module _ (l : Lent) (x y : ℕ) (before : List ℕ) (t : Told) (after : List ℕ) (call : Shows l x y before (t, after)) where
+  pub shown-chain : t .answer ≡ 0 → Best (Channel (sheetIn l)) x y (take (t .value) after) × (length (take (t .value) after) ≡ t .value)
+  shown-chain q = told-chain (call .done (answered (λ r. r .0 .answer) (λ _. refl) call q)) q
+
+  pub flow-answered : firstRefusal (chainRefusals l x y before) ≡ 0 → Flow (Channel (sheetIn l)) x y → t .answer ≡ 0
+  flow-answered accepted = tells-chain (call .done accepted)

@@ -1,5 +1,5 @@
--- The laws of the call at a sheet whose one subject may write its one object, so that the separation from 0 to 1 is broken: their
--- premises can be met.
+-- The laws of the calls at a sheet whose one subject may write its one object, so that the separation from 0 to 1 is broken and that
+-- from 1 to 0 holds: their premises can be met.
 use Prim.Native.Nat.{ℕ, zero, suc, _<_}
 use mathlib.Core.Path.{_≡_, refl}
 use mathlib.Core.Logic.{inl, inr}
@@ -7,9 +7,9 @@ use mathlib.Core.List.{List, [], _∷_}
 use native.Mathlib.Omega.{arith}
 use lib.Dec.{lit<, lit≤}
 use lib.ListN.{replicate}
-use Rattle.answers.specs.Call.{firstRefusal, _then_, eachBelow}
+use Rattle.answers.specs.Call.{firstRefusal, _then_, eachBelow, told}
 use Rattle.answers.specs.Rows.{at, Mark, one, none, anyBelow, over}
-use Rattle.tables.specs.Sheet.{Lent, lent, counts, sheetOf, sheetIn}
+use Rattle.tables.specs.Sheet.{Lent, lent, counts, sheetOf, sheetIn, from, to}
 use Rattle.tables.specs.Refusals.{sizeRefusals, usedRefusals, sheetRefusals, pairRefusals, separationRefusals}
 use Rattle.answers.proofs.Calls.{accept}
 use Rattle.theory.specs.Flow.{Flow, here, step}
@@ -18,10 +18,14 @@ use Rattle.theory.proofs.Flows.{flow-closed, flow-more}
 use Rattle.theory.proofs.Chains.{best-agrees}
 use Rattle.rows.specs.Written.{FlowTable}
 use Rattle.access.specs.Channel.{read, May, Assigned, Plain, Channel, reads, writes}
-use Rattle.separations.specs.Verdict.{judged, broken, Finding}
+use Rattle.separations.specs.Shown.{shown}
+use Rattle.separations.specs.declared.Judged.{Judged}
+use Rattle.separations.specs.Judgement.{AllHold, judged, hold, broken, Finding}
+use Rattle.verdict.specs.Chain.{chainRefusals, Shows}
 use Rattle.verdict.specs.Judge.{judgeRefusals, Judges}
 use Rattle.verdict.proofs.Bounds.{Small, judged-small}
-use Rattle.verdict.proofs.Findings.{finding, table-answered}
+use Rattle.verdict.proofs.Showing.{showable, chain-pass}
+use Rattle.verdict.proofs.Findings.{finding, finding-chain, holding, broken-answered, holding-answered, finding-in-table, holding-in-table, table-answered, shown-chain, flow-answered}
 
 data Hop : ℕ → ℕ → Type 0 where
   hop : Hop 0 1
@@ -88,6 +92,15 @@ call =
 found : Finding (Channel (sheetOf tables 1 separations)) 1 separations before (judged 14 0 2) (0 ∷ 1 ∷ replicate 110 9)
 found = finding tables 1 separations before _ _ call refl
 
+found-chain : Best (Channel (sheetOf tables 1 separations)) 0 1 (0 ∷ 1 ∷ [])
+unfolding separations
+found-chain = finding-chain tables 1 separations before _ _ call refl .0
+
+-- whatever the call gives, its answer is 14
+broken-told : (j : Judged) (after : List ℕ) → Judges tables 1 separations before (j, after) → j .answer ≡ 14
+unfolding separations sheetOf
+broken-told j after c = broken-answered tables 1 separations before j after c accepted 0 (lit< tt) (step here (channel-of 0 1 hop))
+
 small : Small (judged 14 0 2)
 small = judged-small tables 1 separations before call
 
@@ -110,3 +123,51 @@ filled buffer = record { table = 1 ∷ 1 ∷ 0 ∷ 1 ∷ []; marked = record { s
 by-table : (judged 14 0 2 .answer ≡ 14) × (judged 14 0 2 .position ≡ 0)
 unfolding tables separations over
 by-table = table-answered tables 1 separations before _ _ call (filled []) accepted 0 (lit< tt) refl (λ k h. absurd (omega arith))
+
+-- whatever the call gives, the byte of the separation that it names is 1
+found-in-table : (j : Judged) (after : List ℕ) → Judges tables 1 separations before (j, after) →
+    at (1 ∷ 1 ∷ 0 ∷ 1 ∷ []) 2 (from separations (j .position)) (to separations (j .position)) ≡ 1
+unfolding tables over
+found-in-table j after c = finding-in-table tables 1 separations before j after c (filled []) (broken-told j after c) .0
+
+-- ---- its chain from 0 to 1
+chain-accepted : firstRefusal (chainRefusals tables 0 1 before) ≡ 0
+unfolding firstRefusal _then_ anyBelow sheetRefusals sizeRefusals usedRefusals chainRefusals tables before
+chain-accepted = refl
+
+pub chain-call : Shows tables 0 1 before (told 0 2, 0 ∷ 1 ∷ replicate 110 9)
+unfolding before over
+chain-call = accept chain-accepted (shown (0 ∷ 1 ∷ []) (best-agrees channel-of hop-of best) refl)
+
+chain-shown : Best (Channel (sheetIn tables)) 0 1 (0 ∷ 1 ∷ [])
+chain-shown =
+    let passes = chain-pass tables 0 1 before (showable tables 0 1 before chain-accepted) in
+    shown-chain tables 0 1 before _ _ chain-call (flow-answered tables 0 1 before _ _ chain-call passes (step here (channel-of 0 1 hop))) .0
+
+-- ---- the separation from 1 to 0, which holds
+unfoldable turned : List ℕ
+turned = 1 ∷ 0 ∷ replicate 126 9
+
+turned-accepted : firstRefusal (judgeRefusals tables 1 turned before) ≡ 0
+unfolding firstRefusal _then_ eachBelow anyBelow sheetRefusals sizeRefusals usedRefusals pairRefusals separationRefusals judgeRefusals tables turned before
+turned-accepted = refl
+
+turned-holds : AllHold (Channel (sheetOf tables 1 turned)) 1 turned
+unfolding turned sheetOf
+turned-holds zero h f = omega (arith, stays-1 f)
+turned-holds (suc i) h f = omega arith
+
+turned-call : Judges tables 1 turned before (judged 0 0 0, before)
+turned-call = accept turned-accepted (hold turned-holds refl)
+
+-- whatever the call gives, its answer is 0
+holding-told : (j : Judged) (after : List ℕ) → Judges tables 1 turned before (j, after) → j .answer ≡ 0
+holding-told j after c = holding-answered tables 1 turned before j after c turned-accepted turned-holds
+
+held : Flow (Channel (sheetOf tables 1 turned)) 1 0 → ⊥
+unfolding turned
+held = holding tables 1 turned before _ _ turned-call (holding-told _ _ turned-call) .0 0 (lit< tt)
+
+held-in-table : at (1 ∷ 1 ∷ 0 ∷ 1 ∷ []) 2 1 0 ≡ 1 → ⊥
+unfolding tables turned over
+held-in-table = holding-in-table tables 1 turned before _ _ turned-call (filled []) (holding-told _ _ turned-call) 0 (lit< tt)

@@ -16,7 +16,7 @@ use Rattle.tables.proofs.Accepted.{sheet-numbered, tables-passed, separations-p
 use Rattle.answers.proofs.Joined.{neither}
 use Rattle.access.specs.Channel.{Channel}
 use Rattle.separations.specs.declared.Judged.{Judged}
-use Rattle.separations.specs.Verdict.{judged, Verdict}
+use Rattle.separations.specs.Judgement.{judged, Judgement}
 use Rattle.verdict.specs.Judge.{judgeRefusals, Judges}
 use Rattle.verdict.specs.Inner.{Judgeable}
 use Rattle.verdict.proofs.Showing.{sheet-has, table-has}
@@ -59,8 +59,8 @@ module _ (l : Lent) (count : ℕ) (separations chain : List ℕ) where
 
 -- what is judged over a channel table that was filled for the sheet; the separations make no channel
 pub of-sheet : (l : Lent) (count : ℕ) (separations scratch channels before : List ℕ) (result : Judged × List ℕ) →
-    Filled (entities (l .counts)) (Channel (sheetIn l)) scratch channels → Verdict (Bytes (entities (l .counts)) channels) count separations before result →
-    Verdict (Channel (sheetOf l count separations)) count separations before result
+    Filled (entities (l .counts)) (Channel (sheetIn l)) scratch channels → Judgement (Bytes (entities (l .counts)) channels) count separations before result →
+    Judgement (Channel (sheetOf l count separations)) count separations before result
 unfolding sheetOf
 of-sheet l count separations scratch channels before result f v =
     verdict-agrees (sheet-has l scratch channels f) (table-has l scratch channels f) v
@@ -72,5 +72,5 @@ module _ (l : Lent) (count : ℕ) (separations before : List ℕ) where
   judge-refused n e some = refuse n e some refl
 
   pub judge-done : (result : Judged × List ℕ) → firstRefusal (judgeRefusals l count separations before) ≡ 0 →
-      Verdict (Channel (sheetOf l count separations)) count separations before result → Judges l count separations before result
+      Judgement (Channel (sheetOf l count separations)) count separations before result → Judges l count separations before result
   judge-done result e v = accept e v

@@ -4,4 +4,5 @@ pub mod Judging
 pub mod Bounds
 pub mod Findings
 pub mod Instances
+pub mod RefusalOrder
 pub mod Determined

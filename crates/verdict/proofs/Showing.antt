@@ -5,7 +5,7 @@ use mathlib.Core.Logic.{_≢_}
 use mathlib.Core.Bool.{Bool, cond}
 use mathlib.Core.List.{List, [], _∷_}
 use native.Mathlib.Omega.{arith}
-use borrow.Author.Tests.{ltb-false, leb-false}
+use borrow.Author.Tests.{ltb-false, leb-false, le-ltb, lt-leb}
 use lib.Dec.{leb}
 use mir.Syntax.{w64}
 use mir.Val.{Fits}
@@ -15,9 +15,8 @@ use Rattle.answers.specs.Rows.{Bytes, Filled, shorter}
 use Rattle.answers.specs.Sizes.{leastChain}
 use Rattle.tables.specs.Sheet.{Lent, sheetIn, entities}
 use Rattle.tables.specs.Refusals.{noList, sheetRefusals}
-use Rattle.answers.proofs.Calls.{passed, passed-then, first-refuses, second-decides, refuse, accept}
-use Rattle.tables.proofs.Accepted.{sheet-numbered, tables-passed}
-use Rattle.theory.proofs.Flows.{Has}
+use Rattle.answers.proofs.Calls.{none-left, passed, passed-then, pass, pass-then, first-refuses, second-decides, refuse, accept}
+use Rattle.tables.proofs.Accepted.{sheet-numbered, tables-passed, tables-pass}
 use Rattle.theory.proofs.Chains.{chain-long}
 use Rattle.chains.specs.Shown.{ShownChain, shown as written, missing as none}
 use Rattle.theory.proofs.Filled.{bytes-to, bytes-from}
@@ -27,10 +26,11 @@ use Rattle.access.proofs.Channels.{sheet-inside}
 use Rattle.separations.specs.Shown.{Shown, shown, missing}
 use Rattle.verdict.specs.Chain.{chainRefusals, Shows}
 use Rattle.verdict.specs.Inner.{Showable}
+use Rattle.theory.specs.Laws.{Contains}
 
 -- the sum of both counts does not wrap once 5 has passed
 pub sum-fits : (short : Bool) (l : Lent) → firstRefusal (sheetRefusals short noList l) ≡ 0 → Fits w64 (entities (l .counts))
-sum-fits short l e = let s = tables-passed short noList l e .sized in omega (arith, s .subjects, s .objects)
+sum-fits short l e = let s = tables-passed short noList l e .sized in omega (arith, s .counts-fit .subjects, s .counts-fit .objects)
 
 -- ---- what is refused
 module _ (l : Lent) (x y : ℕ) (chain : List ℕ) where
@@ -55,13 +55,20 @@ module _ (l : Lent) (x y : ℕ) (chain : List ℕ) where
       let b = passed _ _ _ tt (a .1) in
       record { sized = t .sized; first = leb-false _ _ (a .0); last = leb-false _ _ (b .0); room = ltb-false _ _ (t .not-short) }
 
+  pub chain-pass : Showable l x y chain → firstRefusal (chainRefusals l x y chain) ≡ 0
+  unfolding chainRefusals
+  chain-pass s =
+      pass-then tables _ (sheet-numbered _ _ l)
+      (tables-pass _ _ l (record { not-short = le-ltb _ _ (s .room); not-long = refl; sized = s .sized }))
+      (pass 10 _ _ (lt-leb _ _ (s .first)) (pass 10 _ _ (lt-leb _ _ (s .last)) none-left))
+
 -- ---- what is shown
 -- a channel table that was filled for a sheet has the pairs of the sheet's channels
 module _ (l : Lent) (scratch channels : List ℕ) (f : Filled (entities (l .counts)) (Channel (sheetIn l)) scratch channels) where
-  pub sheet-has : Has (Channel (sheetIn l)) (Bytes (entities (l .counts)) channels)
+  pub sheet-has : Contains (Channel (sheetIn l)) (Bytes (entities (l .counts)) channels)
   sheet-has = bytes-to (f .marked) scratch (f .written)
 
-  pub table-has : Has (Bytes (entities (l .counts)) channels) (Channel (sheetIn l))
+  pub table-has : Contains (Bytes (entities (l .counts)) channels) (Channel (sheetIn l))
   table-has = bytes-from (f .marked) scratch (f .written) (sheet-inside l)
 
   pub of-sheet : (before after : List ℕ) (x y count : ℕ) → ShownChain (Bytes (entities (l .counts)) channels) x y before after count →

@@ -4,10 +4,10 @@ use mathlib.Core.List.{List}
 use lib.ListN.{length}
 use Rattle.answers.specs.Sizes.{leastChain, leastSeparations}
 use Rattle.tables.specs.Sheet.{Lent, entities, sheetOf}
-use Rattle.tables.specs.Inner.{Sized, Listed}
 use Rattle.access.specs.Channel.{Channel}
 use Rattle.separations.specs.declared.Judged.{Judged}
-use Rattle.separations.specs.Verdict.{Verdict}
+use Rattle.separations.specs.Judgement.{Judgement}
+use Rattle.tables.specs.Refusals.{Sized, Listed}
 
 -- tables, entities and a chain buffer that were not refused
 pub record Showable (l : Lent) (x y : ℕ) (chain : List ℕ) : Type 0 where
@@ -25,4 +25,4 @@ pub record Judgeable (l : Lent) (count : ℕ) (separations chain : List ℕ) : T
 
 -- what is judged of the sheet in lent tables
 abbrev pub SheetVerdict : Lent → ℕ → List ℕ → List ℕ → Judged × List ℕ → Type 0
-SheetVerdict l count separations before = Verdict (Channel (sheetOf l count separations)) count separations before
+SheetVerdict l count separations before = Judgement (Channel (sheetOf l count separations)) count separations before

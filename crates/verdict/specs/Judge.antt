@@ -9,7 +9,7 @@ use Rattle.tables.specs.Sheet.{Lent, sheetOf, entities}
 use Rattle.tables.specs.Refusals.{noList, sheetRefusals, separationRefusals}
 use Rattle.access.specs.Channel.{Channel}
 use Rattle.separations.specs.declared.Judged.{Judged}
-use Rattle.separations.specs.Verdict.{judged, Verdict}
+use Rattle.separations.specs.Judgement.{judged, Judgement}
 
 -- "1, 5, 11; then, if it takes separations, 8, and then the first faulty pair, 6 before 7"
 unfoldable pub judgeRefusals : Lent → ℕ → List ℕ → List ℕ → List Refusal
@@ -21,4 +21,4 @@ judgeRefusals l count separations chain =
 abbrev pub Judges : Lent → ℕ → List ℕ → List ℕ → Judged × List ℕ → Type 0
 Judges l count separations before =
     Outcome (judgeRefusals l count separations before) (λ n. (judged n 0 0, before))
-    (Verdict (Channel (sheetOf l count separations)) count separations before)
+    (Judgement (Channel (sheetOf l count separations)) count separations before)

@@ -2,9 +2,9 @@
 use borrow.Author.Needs.{needs}
 use Rattle.answers.proofs.Calls.{by-both}
 use Rattle.tables.proofs.Accepted.{sheet-numbered}
-use Rattle.change.specs.Inner.{changeRefusals}
 use Rattle.change.proofs.change_refusal.Statement.{statement}
 use Rattle.change.proofs.change_refusal.Tie as tie
+use Rattle.change.specs.Change.{changeRefusals}
 
 sheet-refusal-requires : tie.Need-sheet-refusal-requires
 sheet-refusal-requires c κs = search needs

@@ -23,9 +23,9 @@ gather-all-requires c κs =
     let e = c .before .before .before .before .before in
     let sized = e .pre .sized in
     record {
-      few-subjects = sized .subjects;
-      few-roles = sized .roles;
-      table = product-within (e .args .c .subjects) (e .args .c .roles) 48 48 _ (sized .subjects) (sized .roles) (sized .assignment);
+      few-subjects = sized .counts-fit .subjects;
+      few-roles = sized .counts-fit .roles;
+      table = product-within (e .args .c .subjects) (e .args .c .roles) 48 48 _ (sized .counts-fit .subjects) (sized .counts-fit .roles) (sized .assignment);
       places = omega arith;
       counted = omega arith;
     }

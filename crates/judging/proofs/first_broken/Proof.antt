@@ -6,7 +6,7 @@ use native.Mathlib.Omega.{arith}
 use Rattle.answers.specs.Rows.{Bytes}
 use Rattle.answers.proofs.Marks.{marked-yes, mark-of}
 use Rattle.chains.proofs.Scans.{Scanned, scan-found, scan-pass, scan-all}
-use Rattle.separations.specs.Verdict.{Broken}
+use Rattle.separations.specs.Judgement.{Broken}
 use Rattle.judging.specs.Inner.{HeldRow}
 use Rattle.judging.proofs.Searching.{held-none, held-row, byte-marks}
 use Rattle.judging.proofs.first_broken.Statement.{statement}

@@ -2,13 +2,13 @@
 use Prim.Native.Nat.{_-_, _≤_}
 use native.Mathlib.Omega.{arith}
 use borrow.Author.Needs.{needs}
-use Rattle.labels.specs.Inner.{Leaves}
+use Rattle.labels.specs.Inner.{FlowsOn}
 use Rattle.labels.proofs.Answering.{NoneBelow, none-yet, none-more, not-secret, secret}
 use Rattle.labels.proofs.greatest_secrecy.Statement.{statement}
 use Rattle.labels.proofs.greatest_secrecy.Tie as tie
 
 abbrev Inv-loop : tie.InvT-loop
-Inv-loop n table x y₀ y = (y ≤ n) × NoneBelow y (Leaves n table x)
+Inv-loop n table x y₀ y = (y ≤ n) × NoneBelow y (FlowsOn n table x)
 
 abbrev μ-loop : tie.MeasureT-loop
 μ-loop n table x y₀ y = n - y

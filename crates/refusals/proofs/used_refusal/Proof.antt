@@ -7,16 +7,16 @@ use Rattle.refusals.proofs.used_refusal.Statement.{statement}
 use Rattle.refusals.proofs.used_refusal.Tie as tie
 
 mul-some-above : tie.Need-mul-some-above
-mul-some-above c = let m = c .before .before .before .pre in product-fits _ _ 48 64 (m .roles) (m .objects) tt
+mul-some-above c = let m = c .before .before .before .pre in product-fits _ _ 48 64 (m .counts-fit .roles) (m .counts-fit .objects) tt
 
 some-above-requires : tie.Need-some-above-requires
-some-above-requires c κs = let m = c .before .before .before .pre in product-within _ _ 48 64 _ (m .roles) (m .objects) (m .permission-long)
+some-above-requires c κs = let m = c .before .before .before .pre in product-within _ _ 48 64 _ (m .counts-fit .roles) (m .counts-fit .objects) (m .permission-long)
 
 mul-some-above-2 : tie.Need-mul-some-above-2
-mul-some-above-2 c = let m = c .before .before .before .before .before .pre in product-fits _ _ 48 48 (m .subjects) (m .roles) tt
+mul-some-above-2 c = let m = c .before .before .before .before .before .pre in product-fits _ _ 48 48 (m .counts-fit .subjects) (m .counts-fit .roles) tt
 
 some-above-requires-2 : tie.Need-some-above-requires-2
-some-above-requires-2 c κs = let m = c .before .before .before .before .before .pre in product-within _ _ 48 48 _ (m .subjects) (m .roles) (m .assignment-long)
+some-above-requires-2 c κs = let m = c .before .before .before .before .before .pre in product-within _ _ 48 48 _ (m .counts-fit .subjects) (m .counts-fit .roles) (m .assignment-long)
 
 refuse-requires : tie.Need-refuse-requires
 refuse-requires c κs = search needs

@@ -28,14 +28,14 @@ put-entities-requires c κs =
     let filled = c .before .before .before in
     let s = filled .before .before .before .before .before .before .before in (
       is-accepted (of s) _ _ (s .pre .0) _ _ _ (omega arith) (filled .fill .ensures) (omega arith),
-      omega (arith, s .pre .0 .sized .subjects, s .pre .0 .sized .objects, s .pre .1),
+      omega (arith, s .pre .0 .sized .counts-fit .subjects, s .pre .0 .sized .counts-fit .objects, s .pre .1),
     )
 
 put-verdict-requires : tie.Need-put-verdict-requires
 put-verdict-requires c κs =
     let s = c .before .before .before .before .before .before .before .before .before .before .before .before .before .before in
     let place = lines-place (c .before .before .before .put-entities .ensures) in
-    (s .pre .0, omega (arith, s .pre .0 .sized .subjects, s .pre .0 .sized .objects, s .pre .1))
+    (s .pre .0, omega (arith, s .pre .0 .sized .counts-fit .subjects, s .pre .0 .sized .counts-fit .objects, s .pre .1))
 
 same-length : tie.Need-same-length
 same-length c = search needs

@@ -9,7 +9,7 @@ use Rattle.scribe.proofs.write_tables.Tie as tie
 put-header-requires : tie.Need-put-header-requires
 put-header-requires c κs =
     let s = c .before .before .before .before .before .pre .sized in
-    omega (arith, s .subjects, s .objects, s .roles, c .before .before .before .before .before .pre .text-long)
+    omega (arith, s .counts-fit .subjects, s .counts-fit .objects, s .counts-fit .roles, c .before .before .before .before .before .pre .text-long)
 
 put-table-requires : tie.Need-put-table-requires
 unfolding frameAt

@@ -1,24 +1,25 @@
 -- `sheet::read` meets its contract: each refusal leaves the tables, and an accepted text fills them. Assumes nothing.
 use borrow.Author.Needs.{needs}
-use mathlib.Core.Path.{sym, _∙_}
-use Rattle.reader.specs.Fill.{tables, Long}
-use Rattle.sheet.proofs.ReadReturns.{none-short, short-refused, long-text, line-refused, tables-filled}
+use mathlib.Core.Path.{refl, sym, _∙_}
+use Rattle.reader.specs.Fill.{tables, LongTables}
+use Rattle.sheet.proofs.ReadDone.{lengths-passed}
+use Rattle.sheet.proofs.ReadReturns.{short-refused, long-text, line-refused, tables-filled}
 use Rattle.sheet.proofs.read.Statement.{statement}
 use Rattle.sheet.proofs.read.Tie as tie
 
 -- the buffers that passed have their least lengths
 long : (c : tie.Else1) →
-    let a = c .before .before .before .before .before .before .args in Long (tables (a .assignment .now) (a .permission .now) (a .separations .now))
-long c = none-short _ (sym (c .before .some-short .ensures) ∙ c .if1 .left)
+    let a = c .before .before .before .before .before .before .args in LongTables (tables (a .assignment .now) (a .permission .now) (a .separations .now))
+long c = lengths-passed _ (sym (c .before .length-refusal .ensures _ refl refl refl) ∙ c .if1 .left)
 
-some-short-requires : tie.Need-some-short-requires
-some-short-requires c κs = search needs
+length-refusal-requires : tie.Need-length-refusal-requires
+length-refusal-requires c κs = search needs
 
 refused-reading-requires : tie.Need-refused-reading-requires
 refused-reading-requires c κs = search needs
 
 returns : tie.Need-returns
-returns c = rw (c .refused-reading .ensures) (short-refused _ _ (sym (c .before .before .some-short .ensures) ∙ c .before .if1 .taken))
+returns c = rw (c .refused-reading .ensures) (short-refused _ _ _ (c .before .before .length-refusal .ensures _ refl refl refl) (c .before .if1 .taken))
 
 refused-reading-requires-2 : tie.Need-refused-reading-requires-2
 refused-reading-requires-2 c κs = search needs
@@ -65,7 +66,7 @@ pub read-spec : {M : Type 1} → statement M
 read-spec =
     tie.close
     (tie.spec
-    some-short-requires
+    length-refusal-requires
     refused-reading-requires
     returns
     refused-reading-requires-2

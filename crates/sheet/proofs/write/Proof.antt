@@ -3,7 +3,7 @@ use borrow.Author.Needs.{needs}
 use mathlib.Core.Path.{_≡_, sym, _∙_}
 use native.Mathlib.Omega.{arith}
 use Rattle.tables.specs.Sheet.{Lent, lent}
-use Rattle.sheet.proofs.Wrote.{tablesRefusal, Passed, past-tables, past-all, refused-by-tables, refused-by-pairs, wrote}
+use Rattle.sheet.proofs.Wrote.{tablesRefusal, Writable, past-tables, past-all, refused-by-tables, refused-by-pairs, wrote}
 use Rattle.sheet.proofs.write.Statement.{statement}
 use Rattle.sheet.proofs.write.Tie as tie
 
@@ -23,7 +23,7 @@ start c = c .before .before .before .before .before .before .before
 none-of-tables : (c : tie.Else1) → let s = start c in tablesRefusal (tables s) (s .args .count) (s .args .separations .now) (s .args .text .now) ≡ 0
 none-of-tables c = sym (by-tables (c .before)) ∙ c .if1 .left
 
-passed : (c : tie.Else1) → let s = start c in Passed (tables s) (s .args .count) (s .args .separations .now) (s .args .text .now)
+passed : (c : tie.Else1) → let s = start c in Writable (tables s) (s .args .count) (s .args .separations .now) (s .args .text .now)
 passed c =
     let s = start c in
     past-tables (tables s) (s .args .count) (s .args .separations .now) (s .args .text .now) (none-of-tables c)
@@ -43,7 +43,7 @@ returns c = rw (c .tell .ensures) (refused-by-tables (tables (c .before .before 
 add-entities : tie.Need-add-entities
 add-entities c =
     let s = passed (c .before) .sized in
-    omega (arith, s .subjects, s .objects)
+    omega (arith, s .counts-fit .subjects, s .counts-fit .objects)
 
 separation-refusal-requires : tie.Need-separation-refusal-requires
 separation-refusal-requires c κs = passed (c .before) .separations-long

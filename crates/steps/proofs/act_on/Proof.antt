@@ -1,7 +1,7 @@
 -- `steps::act_on` meets its contract: the arm that moves is told which move the act is.
 use mathlib.Core.Path.{_∙_}
 use borrow.Author.Needs.{needs}
-use Rattle.transfers.specs.Acts.{verdict, acted}
+use Rattle.transfers.specs.Acts.{verdictByte, acted}
 use Rattle.steps.proofs.Coming.{move-ends}
 use Rattle.steps.proofs.act_on.Statement.{statement}
 use Rattle.steps.proofs.act_on.Tie as tie
@@ -22,18 +22,18 @@ same-length : tie.Need-same-length
 same-length c = search needs
 
 returns : tie.Need-returns
-unfolding verdict
+unfolding verdictByte
 returns c =
     let at-move = c .before .before in
     let is = at-move .before .before .before .act .given .1 in
     record { byte-is = rw is; moved = at-move .move-mark .ensures ∙ rw is }
 
 returns-2 : tie.Need-returns-2
-unfolding verdict acted
+unfolding verdictByte acted
 returns-2 c = record { byte-is = rw (c .enum-told .given .1); moved = rw (c .enum-told .given .1) }
 
 returns-3 : tie.Need-returns-3
-unfolding verdict acted
+unfolding verdictByte acted
 returns-3 c = record { byte-is = rw (c .enum-told2 .given .1); moved = rw (c .enum-told2 .given .1) }
 
 pub act-on-spec : {M : Type 1} → statement M

@@ -9,12 +9,12 @@ use Rattle.answers.proofs.Calls.{answered, passed-then}
 use Rattle.tables.specs.Sheet.{Lent, entities}
 use Rattle.tables.proofs.Accepted.{tables-passed, sheet-numbered}
 use Rattle.tables.proofs.Sounds.{entities-fit}
-use Rattle.change.specs.Change.{SetsPermission, setPermissionRefusals}
+use Rattle.change.specs.Change.{SetsPermission, setPermissionRefusals, changeRefusals}
 use Rattle.whatif.proofs.ask.Statement.{statement}
 use Rattle.whatif.proofs.ask.Tie as tie
 
 few-entities : (l : Lent) (r o mode : ℕ) (result : ℕ × List ℕ) → SetsPermission l r o mode result → result .0 ≡ 0 → entities (l .counts) ≤ mostEntities
-unfolding setPermissionRefusals
+unfolding setPermissionRefusals changeRefusals
 few-entities l r o mode result call e =
     entities-fit l (tables-passed _ _ l (passed-then _ _ (sheet-numbered _ _ l) (answered (λ result. result .0) (λ n. refl) call e) .0) .sized)
 

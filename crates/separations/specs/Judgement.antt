@@ -29,10 +29,10 @@ judged n position count = record { answer = n; position = position; count = coun
 
 -- "The first broken one is answered by 14, its position from 0 and its chain"; where all hold, "position and chain count" are 0 and
 -- "the chain buffer is then unaltered"
-pub data Verdict (ch : ℕ → ℕ → Type 0) (count : ℕ) (separations before : List ℕ) (result : Judged × List ℕ) : Type 0 where
-  hold : AllHold ch count separations → result ≡ (judged 0 0 0, before) → Verdict ch count separations before result
+pub data Judgement (ch : ℕ → ℕ → Type 0) (count : ℕ) (separations before : List ℕ) (result : Judged × List ℕ) : Type 0 where
+  hold : AllHold ch count separations → result ≡ (judged 0 0 0, before) → Judgement ch count separations before result
   broken : (i : ℕ) (l : List ℕ) → FirstBroken ch count separations i → Best ch (from separations i) (to separations i) l →
-      result ≡ (judged 14 i (length l), over l before) → Verdict ch count separations before result
+      result ≡ (judged 14 i (length l), over l before) → Judgement ch count separations before result
 
 -- "The first broken separation is named .. and the shortest is shown": what an answer of 14 tells
 pub record Finding (ch : ℕ → ℕ → Type 0) (count : ℕ) (separations before : List ℕ) (j : Judged) (after : List ℕ) : Type 0 where

@@ -1,0 +1,1 @@
+// What the results of several calls tell together: definitions and theorems. No code.
