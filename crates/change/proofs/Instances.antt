@@ -6,7 +6,7 @@ use mathlib.Core.Logic.{_⊎_, inl, inr, ⊎-elim, _≢_}
 use mathlib.Core.List.{List, [], _∷_}
 use native.Mathlib.Omega.{arith}
 use lib.Dec.{lit<}
-use lib.ListN.{getD, set, replicate}
+use lib.ListN.{getD, replicate}
 use Rattle.answers.specs.Call.{firstRefusal, _then_}
 use Rattle.answers.specs.Rows.{at, Mark, one, none, Bytes, over, anyBelow}
 use Rattle.answers.proofs.Calls.{accept}

@@ -5,7 +5,7 @@ use mathlib.Core.Bool.{Bool, true, false}
 use mathlib.Core.List.{List}
 use lib.ListN.{length, getD}
 use Rattle.tables.specs.declared.Counts.{Counts}
-use Rattle.answers.specs.Sizes.{mostSubjects, mostObjects, mostRoles, leastPermission, leastFlow}
+use Rattle.answers.specs.Sizes.{mostSubjects, mostRoles, leastPermission, leastFlow}
 use Rattle.answers.specs.Rows.{at}
 use Rattle.tables.specs.Sheet.{CountsFit, Lent}
 use Rattle.access.specs.Channel.{Has, ChannelOf}

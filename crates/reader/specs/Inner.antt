@@ -4,7 +4,7 @@ use mathlib.Core.Path.{_≡_}
 use mathlib.Core.List.{[], _∷_}
 use lib.ListN.{drop}
 use Rattle.answers.specs.Call.{firstRefusal}
-use Rattle.answers.specs.Sizes.{mostSubjects, mostObjects, mostRoles, mostSeparations}
+use Rattle.answers.specs.Sizes.{mostSeparations}
 use Rattle.tables.specs.Sheet.{CountsFit, Sheet, lent, sheetOf}
 use Rattle.frames.specs.declared.Frame.{Frame}
 use Rattle.frames.specs.declared.Parsed.{Parsed}

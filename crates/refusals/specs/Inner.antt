@@ -1,7 +1,7 @@
 -- Tables that passed 1 and 5. No promise: it only ties functions together.
 use Prim.Native.Nat.{_≤_}
 use lib.ListN.{length}
-use Rattle.answers.specs.Sizes.{mostSubjects, mostObjects, mostRoles, leastAssignment, leastPermission}
+use Rattle.answers.specs.Sizes.{leastAssignment, leastPermission}
 use Rattle.tables.specs.Sheet.{CountsFit, Lent}
 
 -- what bytes are judged by: tables of their least lengths, and counts within their sizes

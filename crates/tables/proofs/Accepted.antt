@@ -9,7 +9,7 @@ use borrow.Author.Tests.{ltb-true, ltb-false, leb-false, lt-ltb, le-ltb, lt-leb}
 use lib.Dec.{T, ltb}
 use Rattle.answers.specs.Call.{firstRefusal, _then_, eachBelow}
 use Rattle.tables.specs.Sheet.{Lent, from, to, separationKey}
-use Rattle.tables.specs.Refusals.{sizeRefusals, usedRefusals, sheetRefusals, pairRefusals, separationRefusals, Sized, Listed, Acceptable}
+use Rattle.tables.specs.Refusals.{sizeRefusals, usedRefusals, sheetRefusals, pairRefusals, separationRefusals, Listed, Acceptable}
 use Rattle.answers.proofs.Below.{none-above, all-within}
 use Rattle.answers.proofs.Calls.{numbered, none-left, passed, pass, passed-then, pass-then}
 use Rattle.answers.proofs.Scans.{each-passes, all-pass}

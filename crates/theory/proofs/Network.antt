@@ -8,7 +8,7 @@ use lib.ListN.{length, getD}
 use Rattle.answers.specs.Rows.{Mark, one, none, count}
 use Rattle.theory.specs.Flow.{Flow, here, step}
 use Rattle.theory.specs.Chain.{Chain, alone, link, NotAfter, ended, less, equal as same-first, Best}
-use Rattle.theory.specs.Order.{Label, LabelSize, Included, Equivalent, ClassBelow, ClassName, equal, below, above, incomparable, Compares, both, only-there, only-back, neither, Greatest}
+use Rattle.theory.specs.Order.{Label, LabelSize, Included, Equivalent, ClassName, equal, below, above, incomparable, Compares, both, only-there, only-back, neither, Greatest}
 use Rattle.theory.specs.Effect.{Effect}
 use Rattle.theory.proofs.Flows.{flow-closed, flow-closed-back, flow-reflexive, flow-transitive}
 use Rattle.theory.proofs.Orders.{theorem-1, isolated, class-named-once}

@@ -6,7 +6,7 @@ use native.Mathlib.Nat.{le-antisymm}
 use Rattle.answers.specs.Rows.{one, count}
 use Rattle.answers.proofs.Marks.{one-mark, mark-agrees, one-row}
 use Rattle.theory.specs.Flow.{Flow}
-use Rattle.theory.specs.Order.{InLabel, Label, LabelSize, Included, Equivalent, ClassBelow, ClassName, Order, equal, below, above, incomparable, Compares, both, only-there, only-back, neither, GreatestSecrecy, GreatestIntegrity, Greatest}
+use Rattle.theory.specs.Order.{InLabel, Label, LabelSize, Included, Equivalent, ClassBelow, ClassName, Order, equal, below, above, incomparable, Compares, both, only-there, only-back, neither, Greatest}
 use Rattle.theory.specs.Laws.{Theorem1, Agree, EqualAnswers, Reflexive, Transitive}
 use Rattle.theory.proofs.Flows.{flow-reflexive, flow-transitive, flow-closed, flow-closed-back}
 

@@ -1,16 +1,16 @@
 -- The ends of `chain`, return by return.
-use Prim.Native.Nat.{ℕ, _≤_, _<_}
-use mathlib.Core.Path.{_≡_, refl, sym, _∙_}
+use Prim.Native.Nat.{ℕ}
+use mathlib.Core.Path.{_≡_, refl}
 use mathlib.Core.Logic.{_≢_}
 use mathlib.Core.Bool.{Bool, cond}
-use mathlib.Core.List.{List, [], _∷_}
+use mathlib.Core.List.{List}
 use native.Mathlib.Omega.{arith}
 use borrow.Author.Tests.{ltb-false, leb-false, le-ltb, lt-leb}
 use lib.Dec.{leb}
 use mir.Syntax.{w64}
 use mir.Val.{Fits}
 use Rattle.answers.specs.declared.Told.{Told}
-use Rattle.answers.specs.Call.{Refusal, _if_, _then_, firstRefusal, told}
+use Rattle.answers.specs.Call.{Refusal, _then_, firstRefusal, told}
 use Rattle.answers.specs.Rows.{Bytes, Filled, shorter}
 use Rattle.answers.specs.Sizes.{leastChain}
 use Rattle.tables.specs.Sheet.{Lent, sheetIn, entities}
