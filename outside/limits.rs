@@ -137,6 +137,45 @@ fn rows() -> Vec<Case> {
     all
 }
 
+// Where N, choice, x or a length is bad the row is the empty part at the start of the before table, be a table empty or not.
+fn no_rows() -> Vec<Case> {
+    const MOST: u64 = u64::MAX;
+    let bad = [[0, 0, 0], [0, 1, 0], [4, 2, 2], [4, MOST, 2], [4, 0, 4], [4, 1, 4], [112, 0, 112], [112, 1, MOST], [113, 0, 0], [113, 1, 0], [MOST, 1, 0]];
+    let good = [[4, 0, 0], [4, 1, 0], [4, 1, 3], [112, 0, 111], [112, 1, 111]];
+    let mut all = vec![];
+    for (before, after) in [(FLOW, FLOW), (FLOW - 1, FLOW), (FLOW, FLOW - 1), (0, FLOW), (FLOW, 0), (0, 0)] {
+        let more: &[[u64; 3]] = if (before, after) == (FLOW, FLOW) { &[] } else { &good };
+        for numbers in bad.iter().chain(more) {
+            let c = case(CHOSEN_ROW, numbers.to_vec(), vec![vec![1; before], vec![1; after]]);
+            assert_eq!(c.expected().numbers[..4], [0, 0, 0, 0]);
+            all.push(c);
+        }
+    }
+    all
+}
+
+// Lines of a text that are an empty part, and where it lies: an empty line at its own place, and no such line at the text's end.
+fn empty_lines() -> Vec<Case> {
+    let texts: [(&[u8], &[(u64, u64)]); 7] = [
+        (b"", &[(0, 0), (1, 0), (2, 0), (u64::MAX, 0)]),
+        (b"\n", &[(0, 1), (1, 0), (2, 1), (3, 1)]),
+        (b"\n\n", &[(0, 2), (1, 0), (2, 1), (3, 2)]),
+        (b"ab", &[(0, 2), (2, 2), (u64::MAX, 2)]),
+        (b"ab\n", &[(0, 3), (2, 3), (3, 3)]),
+        (b"\nab\n\n\ncd", &[(0, 8), (1, 0), (3, 4), (4, 5), (6, 8)]),
+        (b"ab\n\ncd\n\n", &[(0, 8), (2, 3), (4, 7), (5, 8), (6, 8)]),
+    ];
+    let mut all = vec![];
+    for (text, lines) in texts {
+        for &(line, place) in lines {
+            let c = case(REFUSED_LINE, vec![line], vec![text.to_vec()]);
+            assert_eq!(c.expected().numbers[..4], [0, 0, place, 0], "line {line} of {text:?}");
+            all.push(c);
+        }
+    }
+    all
+}
+
 // The output's buffer, and the line of a number far on, in a text of any length.
 fn others() -> Vec<Case> {
     let mut all = vec![];
@@ -158,6 +197,8 @@ fn others() -> Vec<Case> {
 
 pub fn exact_places() -> Vec<Case> {
     let mut all = rows();
+    all.extend(no_rows());
+    all.extend(empty_lines());
     all.extend(others());
     let mut bases = calls_on_tables();
     bases.extend(calls_on_flow());

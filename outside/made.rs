@@ -36,7 +36,8 @@ fn told(t: Told) -> Vec<u64> {
     vec![t.answer as u64, t.value as u64]
 }
 
-// Which of the lent buffers a part lies in, and where.
+// Which of the lent buffers a part lies in, and where. Guards stand between any two buffers, empty ones too, so an empty part has one
+// place like any other.
 fn place(part: Part, lent: &mut Lent) -> Option<Vec<u64>> {
     let start = part.start as usize;
     for (i, buffer) in lent.iter_mut().enumerate() {

@@ -1,6 +1,7 @@
 // The outside tests: cases from a seed and from a list of texts, made through the test face and compared with an independent
-// implementation. usage: run TEXTS [SEED [COUNT]]. The last line is 'N passed, M failed'.
+// implementation, and chains of calls. usage: run TEXTS [SEED [COUNT]]. The last line is 'N passed, M failed'.
 mod cases;
+mod chained;
 mod limits;
 mod made;
 mod oracle;
@@ -112,14 +113,6 @@ fn mostly_held(t: &Sheet, random: &mut Random) -> Sheet {
 }
 
 // ---- rehearsals
-
-// A transfer that is permitted now and then, or is out of range.
-fn transfer(t: &Sheet, random: &mut Random) -> [u8; 3] {
-    if random.one_in(12) {
-        return [random.next() as u8, random.next() as u8, random.below(5) as u8];
-    }
-    [random.below(t.s + 1) as u8, random.below(t.o + 1) as u8, 1 + random.below(2) as u8]
-}
 
 fn rehearsals(t: &Sheet, length: usize, random: &mut Random) -> Vec<Case> {
     let transfers: Vec<u8> = (0..length).flat_map(|_| transfer(t, random)).collect();
@@ -377,6 +370,26 @@ fn random_cases(seed: u64, count: usize) -> Vec<Case> {
     all
 }
 
+// Sheets for chains of calls: with separations of their own, or with some that mostly hold.
+fn chained_sheets(count: usize, random: &mut Random) -> Vec<Sheet> {
+    let mut all = made_sheets();
+    for _ in 0..count / 8 {
+        let t = small(random);
+        all.push(mostly_held(&t, random));
+        all.push(t);
+    }
+    for _ in 0..count / 80 {
+        all.push(full(random));
+        let t = long_chain(&shuffled(48, random), &shuffled(64, random));
+        all.push(mostly_held(&t, random));
+    }
+    let straight: Vec<usize> = (0..64).collect();
+    let mut longest = long_chain(&straight[..48], &straight);
+    longest.separations = vec![(48, 96)];
+    all.push(longest);
+    all
+}
+
 // ---- the run
 
 // Makes the calls of all cases, and counts those that are not answered as they should be.
@@ -401,12 +414,17 @@ fn main() {
     let count = words.get(3).map_or(400, |w| w.parse().unwrap());
     let mut random = Random(seed | 1);
     let mut all = vec![];
+    let mut sound = vec![];
     for (number, at, text) in listed(&words[1]).into_iter().chain(long_texts()) {
-        let c = read_case(text, &mut random);
+        let c = read_case(text.clone(), &mut random);
         let e = c.expected();
-        assert_eq!((e.numbers[0], e.numbers[1]), (number as u64, at as u64), "the listed answer of {:?}", String::from_utf8_lossy(&c.buffers[0]));
-        all.push(report_case(c.buffers[0].clone(), &mut random));
+        assert_eq!((e.numbers[0], e.numbers[1]), (number as u64, at as u64), "the listed answer of {:?}", String::from_utf8_lossy(&text));
+        all.push(report_case(text.clone(), &mut random));
+        all.push(case(REFUSED_LINE, vec![at as u64], vec![text.clone()]));
         all.push(c);
+        if number == 0 {
+            sound.push(text);
+        }
     }
     all.extend(limits::exact_places());
     all.extend(random_cases(seed, count));
@@ -415,7 +433,12 @@ fn main() {
         println!("call {call}: {cases} cases, {accepted} with answer 0");
         assert!(accepted > 0, "call {call} is only refused");
     }
-    let failed = failures(&all);
-    println!("{} passed, {} failed", all.len() - failed, failed);
+    let chains = chained::chains(&sound, &chained_sheets(count, &mut random), &mut random);
+    for promise in chained::PROMISES {
+        let cases = chains.iter().filter(|c| c.promise == promise).count();
+        println!("chains of calls, {promise}: {cases} cases");
+    }
+    let failed = failures(&all) + chained::failures(&chains);
+    println!("{} passed, {} failed", all.len() + chains.len() - failed, failed);
     std::process::exit((failed > 0) as i32);
 }

@@ -1,4 +1,4 @@
-// Sheets, texts and buffers from a seed, so that a seed gives the same cases everywhere.
+// Sheets, transfers, texts and buffers from a seed, so that a seed gives the same cases everywhere.
 use crate::oracle::*;
 
 // A small generator of numbers (xorshift).
@@ -84,6 +84,14 @@ pub fn shuffled(n: usize, random: &mut Random) -> Vec<usize> {
         all.swap(i, random.below(i + 1));
     }
     all
+}
+
+// A transfer that is permitted now and then, or is out of range.
+pub fn transfer(t: &Sheet, random: &mut Random) -> [u8; 3] {
+    if random.one_in(12) {
+        return [random.next() as u8, random.next() as u8, random.below(5) as u8];
+    }
+    [random.below(t.s + 1) as u8, random.below(t.o + 1) as u8, 1 + random.below(2) as u8]
 }
 
 // A buffer of at least some length that holds other bytes.

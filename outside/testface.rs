@@ -1,6 +1,6 @@
 // The calls of the test face (crates/testface), as Rust sees them. A slice goes over as its place and its length.
 #[repr(C)]
-#[derive(Clone, Copy)]
+#[derive(Clone, Copy, PartialEq)]
 pub struct Counts {
     pub subjects: usize,
     pub objects: usize,
