@@ -10,6 +10,11 @@ use Rattle.theory.specs.Flow.{Flow, here, step}
 use Rattle.access.specs.Channel.{TwoSided, read, write, Grants, May, ChannelOf, reads, writes, Channel}
 use Rattle.theory.specs.Laws.{Contains, Inside}
 
+-- "No other pairs": both are entities
+pub sides-inside : (c : Counts) {x y : ℕ} → TwoSided c x y → (x < entities c) × (y < entities c)
+sides-inside c (inl p) = (omega (arith, p), p .2)
+sides-inside c (inr p) = (p .2, omega (arith, p))
+
 module _ {c : Counts} {assigned : ℕ → ℕ → Type 0} {held : ℕ → ℕ → ℕ → Type 0} where
   -- channels join subjects and objects only
   pub two-sided : {x y : ℕ} → ChannelOf c assigned held x y → TwoSided c x y
@@ -18,16 +23,16 @@ module _ {c : Counts} {assigned : ℕ → ℕ → Type 0} {held : ℕ → ℕ �
 
   -- and entities below N only
   pub channel-inside : Inside (entities c) (ChannelOf c assigned held)
-  channel-inside x y (reads o l e h m) = (omega arith, omega arith)
-  channel-inside x y (writes o l h e m) = (omega arith, omega arith)
+  channel-inside x y ch = sides-inside c (two-sided ch)
 
-  -- by its sides
+  -- "From subject to object: the same with write": a channel out of subject x is one that some role of x permits
   pub by-write : {x y : ℕ} → x < c .subjects → ChannelOf c assigned held x y → May c assigned held write x (y - c .subjects)
   by-write h (reads o l e k m) = absurd (omega arith)
   by-write {x} {y} h (writes o l k e m) =
       let f : o ≡ y - c .subjects = omega arith in
       subst (λ (p : ℕ). May c assigned held write x p) f m
 
+  -- "some role assigned to the subject has read on the object": a channel into subject y is by such a role, on object x - S
   pub by-read : {x y : ℕ} → y < c .subjects → ChannelOf c assigned held x y → May c assigned held read y (x - c .subjects)
   by-read h (writes o l k e m) = absurd (omega arith)
   by-read {x} {y} h (reads o l e k m) =
@@ -93,6 +98,7 @@ module _ {c : Counts} {assigned : ℕ → ℕ → Type 0} {held held′ : ℕ �
         grants = record { role = g .role; has-role = g .has-role; holds = others (m .by) o wanted (g .role) ho other (g .holds) };
       }
 
+  -- "A role assigned to nobody makes no channel": where the others keep what they hold, each channel stays, whatever that one holds
   pub channel-without : Contains (ChannelOf c assigned held′) (ChannelOf c assigned held)
   channel-without x y (reads o l e h m) = reads o l e h (may-without h l m)
   channel-without x y (writes o l h e m) = writes o l h e (may-without h l m)

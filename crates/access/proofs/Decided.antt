@@ -73,10 +73,11 @@ module _ (t : Sheet) where
   pub sheet-channel-decided : (x y : ℕ) → Dec (Channel t x y)
   sheet-channel-decided = channel-decided (λ s r. ℕ-discrete _ _) (λ r o m. either-decided (ℕ-discrete _ _) (ℕ-discrete _ _))
 
+  -- "Flow is the reflexive, transitive closure of channel": of each sheet it is decided, from an entity x below N to any y
   pub sheet-flow-decided : (x y : ℕ) → x < entities (t .counts) → Dec (Flow (Channel t) x y)
   sheet-flow-decided x y h = flow-decided channel-inside sheet-channel-decided y x h
 
-  -- a chain exists exactly if x flows to y
+  -- "the shortest is shown": where x flows to y in a sheet, there is such a chain
   pub sheet-chain-exists : {x y : ℕ} → Flow (Channel t) x y → (l : List ℕ) × Best (Channel t) x y l
   sheet-chain-exists {y = y} f = best-exists channel-inside sheet-channel-decided y f
 

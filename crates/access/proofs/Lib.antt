@@ -1,4 +1,5 @@
 -- Laws of channels, and a small sheet at which their premises are met.
+pub mod ACase
 pub mod Channels
 pub mod Decided
 pub mod Example

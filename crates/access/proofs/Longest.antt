@@ -97,7 +97,7 @@ module _ {c : Counts} {assigned : ℕ → ℕ → Type 0} {held : ℕ → ℕ �
       let d = low-distinct (c .subjects) l (shortest-distinct (b .chain) (b .shortest)) in
       omega (arith, alternates (b .chain) .from-any, distinct-fits (c .subjects) (low (c .subjects) l) d (low-below (c .subjects) l))
 
--- 48 subjects, and an object before, between and after them
+-- no shown chain of a sheet has more than 97 entities: 48 subjects, and an object before, between and after them
 pub at-most-97 : (t : Sheet) → t .counts .subjects ≤ mostSubjects → (x y : ℕ) (l : List ℕ) → Best (Channel t) x y l → length l ≤ 97
 at-most-97 t few x y l b = omega (arith, longest b)
 

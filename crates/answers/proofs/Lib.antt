@@ -1,4 +1,5 @@
 -- Laws for the proofs of functions and contracts.
+pub mod ACase
 pub mod Below
 pub mod Unjudged
 pub mod Joined
@@ -11,4 +12,3 @@ pub mod Parts
 pub mod Tables
 pub mod FilledBytes
 pub mod Written
-pub mod Examples

@@ -5,11 +5,11 @@ use mathlib.Core.List.{List, [], _++_, append-assoc}
 use Prim.Native.Nat.{ℕ, _+_, _-_, _*_, _≤_, _<_}
 use native.Mathlib.Nat.{mul-le-mul-right, zero-mul}
 use native.Mathlib.Omega.{arith}
-use lib.ListN.{length, drop, length-append, List·getD-append}
-use lib.Seq.{take-at, drop-at, drop-drop, getD-append-add}
+use lib.ListN.{length, drop, getD, length-append, List·getD-append}
+use lib.Seq.{take-at, drop-at, drop-drop, getD-append-add, getD-drop}
 use borrow.Author.Count.{below-more}
 use borrow.Rule.Slice.PartMut.{putMid}
-use Rattle.answers.specs.Rows.{at, Mark, Row, Marked, over}
+use Rattle.answers.specs.Rows.{at, Mark, Row, Marked, Filled, over}
 use Rattle.answers.proofs.Products.{place-below}
 
 -- the row of i ends within what the table is within
@@ -21,6 +21,17 @@ pub at-over : {n x y : ℕ} (table buffer : List ℕ) → length table ≡ n * n
 unfolding over
 at-over {n} {x} {y} table buffer e h l =
     List·getD-append table (drop (length table) buffer) 0 (x * n + y) (place-below x y n n (length table) h l (omega arith))
+
+over-past : (used buffer : List ℕ) (k : ℕ) → getD (over used buffer) (length used + k) 0 ≡ getD buffer (length used + k) 0
+unfolding over
+over-past used buffer k = getD-append-add used (drop (length used) buffer) k 0 ∙ getD-drop (length used) buffer k 0
+
+-- "Bytes past the used part are neither judged nor altered": past a table of n rows the buffer is as it was
+pub past-the-table : {n : ℕ} {R : ℕ → ℕ → Type 0} {before after : List ℕ} → Filled n R before after → (k : ℕ) → n * n ≤ k →
+    getD after k 0 ≡ getD before k 0
+past-the-table {before = before} f k h =
+    let place : length (f .table) + (k - length (f .table)) ≡ k = omega (arith, f .marked .size) in
+    rw (f .written) (rw place at (over-past (f .table) before (k - length (f .table))))
 
 -- ---- row by row
 -- the first `filled` rows of n bytes, each byte as Q says of its row and place, in front of what the buffer held behind them

@@ -47,6 +47,7 @@ between l a p {before} {after} b hx =
 
 -- ---- an accepted change of an assignment
 module _ (l : Lent) (s r value : ℕ) (assignment : List ℕ) (call : SetsAssignment l s r value (0, assignment)) where
+  -- "A change sets one assignment byte .. and no other": the sheet in what `set_assignment` left, answering 0, is the old one so changed
   pub changed-assignment : sheetIn (lent (l .counts) assignment (l .permission)) ≡ withAssignment (sheetIn l) s r value
   unfolding setAssignmentRefusals changeRefusals rangeRefusals
   changed-assignment =
@@ -59,12 +60,15 @@ module _ (l : Lent) (s r value : ℕ) (assignment : List ℕ) (call : SetsAssign
     assignment-effect : Effect (entities (l .counts)) (Flow (Channel (sheetIn l))) (Flow (Channel (withAssignment (sheetIn l) s r value))) x (getD bytes x 0)
     assignment-effect = rw changed-assignment at (between l _ _ b hx)
 
+    -- "Between filled tables, a change that only adds .. assignment never gives 2 or 3": of what `set_assignment`, both fills and `effect` left
     pub assignment-added : AssignmentAdds (assignedByte (sheetIn l) s r) value → (getD bytes x 0 ≡ 0) ⊎ (getD bytes x 0 ≡ 1)
     assignment-added adds = adding-loses-nothing hx assignment-effect (assignment-adds (sheetIn l) s r value adds)
 
+    -- "one that only takes away never gives 1 or 3": of an assignment, by what `set_assignment`, both fills and `effect` left
     pub assignment-taken : AssignmentTakes (assignedByte (sheetIn l) s r) value → (getD bytes x 0 ≡ 0) ⊎ (getD bytes x 0 ≡ 2)
     assignment-taken takes = taking-gains-nothing hx assignment-effect (assignment-takes (sheetIn l) s r value takes)
 
+    -- "3 both": between filled tables no single change of an assignment gives it, whatever the value that `set_assignment` accepted
     pub assignment-not-3 : getD bytes x 0 ≢ 3
     assignment-not-3 = assignment-never-both (sheetIn l) s r value hx assignment-effect
 
@@ -74,6 +78,7 @@ module _ (l : Lent) (r o mode : ℕ) (permission : List ℕ) (call : SetsPermiss
   unfolding setPermissionRefusals changeRefusals rangeRefusals
   unrefused = passed-then (sheetRefusals noOther noList l) _ (sheet-numbered noOther noList l) (answered (λ r. r .0) (λ _. refl) call refl) .1
 
+  -- "or one permission byte of the lent tables and no other": the sheet in what `set_permission` left, answering 0, is the old one so changed
   pub changed-permission : sheetIn (lent (l .counts) (l .assignment) permission) ≡ withPermission (sheetIn l) r o mode
   changed-permission =
       let none = answered (λ r. r .0) (λ _. refl) call refl in
@@ -84,12 +89,15 @@ module _ (l : Lent) (r o mode : ℕ) (permission : List ℕ) (call : SetsPermiss
     permission-effect : Effect (entities (l .counts)) (Flow (Channel (sheetIn l))) (Flow (Channel (withPermission (sheetIn l) r o mode))) x (getD bytes x 0)
     permission-effect = rw changed-permission at (between l _ _ b hx)
 
+    -- "Between filled tables, a change that only adds permission .. never gives 2 or 3": of what `set_permission`, both fills and `effect` left
     pub permission-added : PermissionAdds (modeByte (sheetIn l) r o) mode → (getD bytes x 0 ≡ 0) ⊎ (getD bytes x 0 ≡ 1)
     permission-added adds = adding-loses-nothing hx permission-effect (permission-adds (sheetIn l) r o mode adds)
 
+    -- "one that only takes away never gives 1 or 3": of a permission, by what `set_permission`, both fills and `effect` left
     pub permission-taken : PermissionTakes (modeByte (sheetIn l) r o) mode → (getD bytes x 0 ≡ 0) ⊎ (getD bytes x 0 ≡ 2)
     permission-taken takes = taking-gains-nothing hx permission-effect (permission-takes (sheetIn l) r o mode takes)
 
+    -- "3 both": between filled tables no single change of a permission gives it, whatever the mode that `set_permission` accepted
     pub permission-not-3 : getD bytes x 0 ≢ 3
     unfolding sheetOf
     permission-not-3 = permission-never-both (sheetIn l) r o mode (column-below _ _ _ _ _ _ unrefused) hx permission-effect

@@ -206,6 +206,7 @@ record Laws : Type 0 where
   lost-not-3 : getD lost-bytes 1 0 ≢ 3
   gained-not-3 : getD gained-bytes 1 0 ≢ 3
 
+-- met by `set_permission` that takes mode 2 away and one that gives it: the effect bytes of entity 1 are 0 or 2, 0 or 1, and never 3
 by-mode : Laws
 unfolding tables sheetOf
 by-mode =
@@ -220,6 +221,7 @@ by-mode =
     nothing (inl e) = absurd (omega arith)
     nothing (inr e) = absurd (omega arith)
 
+-- met by `set_assignment` that takes the role away and one that gives it: the effect bytes of entity 1 are 0 or 2, 0 or 1, and never 3
 by-role : Laws
 unfolding tables sheetOf
 by-role =

@@ -1,4 +1,5 @@
 -- Laws of one change.
+pub mod ACase
 pub mod Changes
 pub mod Turning
 pub mod Placed

@@ -99,6 +99,7 @@ pair a b t e =
     let y = both-true (isDigit a) (isDigit b) (x .0) in
     (y .0, y .1, x .1)
 
+-- "lowercase hexadecimal": an even count of digits 0-9 and a-f, read as bytes and written again, is the same digits
 pub digits-back : (ds : List ℕ) → digitPairs ds ≡ true → toDigits (toBytes ds) ≡ ds
 unfolding toDigits toBytes digitPairs
 digits-back [] e = refl
@@ -108,6 +109,7 @@ digits-back (a ∷ b ∷ t) e =
     let low : digitValue b < 16 = value-low b (x .1) in
     rw (digits-div (digitValue a) low, digits-mod (digitValue a) low, byte-of-value a (x .0), byte-of-value b (x .1), digits-back t (x .2))
 
+-- "lowercase hexadecimal": bytes written as two digits each and read again are the same bytes
 pub bytes-back : (bs : List ℕ) → Bytes bs → toBytes (toDigits bs) ≡ bs
 unfolding toDigits toBytes Bytes
 bytes-back [] h = refl

@@ -13,10 +13,12 @@ use Rattle.theory.proofs.Effects.{one-effect}
 use Rattle.effects.specs.Effects.{Affects}
 use Rattle.effects.specs.ChosenRow.{canChoose, chosen, ChosenRow}
 
+-- "no second answer satisfies it": two results of `effect` on the same input are equal, the answer and the effect buffer
 pub effect-determined : (n : ℕ) (before after effect : List ℕ) (r₁ r₂ : ℕ × List ℕ) → Affects n before after effect r₁ → Affects n before after effect r₂ → r₁ ≡ r₂
 effect-determined n before after effect r₁ r₂ =
     determined (λ _ a b. a .written ∙ ap (λ (row : List ℕ). (0, over row effect)) (one-row (λ _ _ _. one-effect) (a .effects) (b .effects)) ∙ sym (b .written))
 
+-- "no second answer satisfies it": two parts that `chosen_row` may hand back on the same input are the same bytes at the same place
 pub chosen-row-determined : (before after : RefT (List ℕ)) (n choice x : ℕ) (r₁ r₂ : RefT (List ℕ)) →
     ChosenRow before after n choice x r₁ → ChosenRow before after n choice x r₂ → SamePart r₁ r₂
 unfolding ChosenRow

@@ -8,6 +8,7 @@ use Rattle.answers.proofs.Calls.{determined}
 use Rattle.answers.proofs.Marks.{one-marked}
 use Rattle.flow.specs.Fill.{Fills}
 
+-- "no second answer satisfies it": two results of `fill` on the same input are equal, the answer and every byte of the flow buffer
 pub fill-determined : (l : Lent) (before : List ℕ) (r₁ r₂ : ℕ × List ℕ) → Fills l before r₁ → Fills l before r₂ → r₁ ≡ r₂
 fill-determined l before r₁ r₂ =
     determined

@@ -51,21 +51,15 @@ apart-filled buffer = record { table = 1 ∷ 0 ∷ 0 ∷ 1 ∷ []; marked = reco
         (one refl here) (none refl (λ f. omega (arith, stays f)))
         (none refl (λ f. omega (arith, stays f))) (one refl here)
 
+-- met by two subjects and no channel: each answer that the sheet's flow gives on 0, and on 0 and 1, the filled table gives too
 apart-answers : EqualAnswers 2 (SheetFlow apart) (Bytes 2 (1 ∷ 0 ∷ 0 ∷ 1 ∷ 8 ∷ [])) 0 1
 unfolding over
 apart-answers = filled-answers apart _ _ (apart-filled (9 ∷ 9 ∷ 9 ∷ 9 ∷ 8 ∷ [])) 0 1 (lit< tt) (lit< tt)
 
+-- met by two subjects and no channel: each answer that the filled table gives on 0, and on 0 and 1, the sheet's flow gives too
 apart-asked : EqualAnswers 2 (Bytes 2 (1 ∷ 0 ∷ 0 ∷ 1 ∷ 8 ∷ [])) (SheetFlow apart) 0 1
 unfolding over
 apart-asked = table-answers apart _ _ (apart-filled (9 ∷ 9 ∷ 9 ∷ 9 ∷ 8 ∷ [])) 0 1 (lit< tt) (lit< tt)
-
-apart-classes : OneClass 2 (Bytes 2 (1 ∷ 0 ∷ 0 ∷ 1 ∷ [])) 0 1 0 1
-unfolding over
-apart-classes = classes-partition apart _ _ (apart-filled []) 0 1 0 1 (lit< tt) (lit< tt)
-
-apart-byte : Bytes 2 (1 ∷ 0 ∷ 0 ∷ 1 ∷ []) 1 1
-unfolding over
-apart-byte = byte-of-label apart _ _ (apart-filled []) 1 1 (lit< tt) (lit< tt) (λ z hz b. b)
 
 -- ---- a call that filled it
 unfoldable tables : Lent
@@ -78,6 +72,7 @@ call : Fills tables flow (0, over (1 ∷ 0 ∷ 0 ∷ 1 ∷ []) flow)
 unfolding firstRefusal _then_ anyBelow sheetRefusals sizeRefusals usedRefusals fillRefusals tables sheetOf
 call = accept refl (refl, apart-filled flow)
 
+-- met by the table that this call of `fill` wrote for two subjects and no channel: it passes 1, 5 and 12
 call-sound : SoundFlow 2 (over (1 ∷ 0 ∷ 0 ∷ 1 ∷ []) flow)
 unfolding tables
 call-sound = table-sound tables flow _ call
@@ -105,6 +100,17 @@ joined-filled buffer = record { table = 1 ∷ 1 ∷ 1 ∷ 1 ∷ []; marked = rec
         (one refl here) (one refl (step here (writes 0 (lit< tt) (lit< tt) refl (record { by = 0; grants = by-role write }))))
         (one refl (step here (reads 0 (lit< tt) refl (lit< tt) (record { by = 0; grants = by-role read })))) (one refl here)
 
+-- met by a subject that reads and writes its object: the filled table's byte from 0 to 1 is 1, so 0's label is included in 1's
 joined-label : Included 2 (Bytes 2 (1 ∷ 1 ∷ 1 ∷ 1 ∷ [])) 0 1
 unfolding over
 joined-label = label-of-byte joined _ _ (joined-filled []) 0 1 (lit< tt) (lit< tt) (record { source = lit< tt; target = lit< tt; byte = refl })
+
+-- met by the same table: 0's label is included in 1's, so its byte from 0 to 1 is 1
+joined-byte : Bytes 2 (1 ∷ 1 ∷ 1 ∷ 1 ∷ []) 0 1
+unfolding over
+joined-byte = byte-of-label joined _ _ (joined-filled []) 0 1 (lit< tt) (lit< tt) joined-label
+
+-- met by the same table: 0 and 1 are one class, named 0
+joined-classes : OneClass 2 (Bytes 2 (1 ∷ 1 ∷ 1 ∷ 1 ∷ [])) 0 1 0 0
+unfolding over
+joined-classes = classes-partition joined _ _ (joined-filled []) 0 1 0 0 (lit< tt) (lit< tt)

@@ -34,6 +34,7 @@ module _ {n : ℕ} {R : ℕ → ℕ → Type 0} {table : List ℕ} (m : Marked n
   marked-diagonal : ((x : ℕ) → R x x) → (x : ℕ) → x < n → at (over table buffer) n x x ≡ 0 → ⊥
   marked-diagonal reflexive x h e = omega (arith, at-over table buffer (m .size) h h, mark-of (m .bytes x x h h) (reflexive x))
 
+-- "Calls on a flow table: 1, 5, 12, 10": a filled table of at most 112 entities, in 12,544 bytes or more, passes 1, 5 and 12
 pub filled-accepted : (t : Sheet) (before after : List ℕ) → FlowFilled t before after → entities (t .counts) ≤ mostEntities → leastFlow ≤ length after →
     SoundFlow (entities (t .counts)) after
 filled-accepted t before after f few room =

@@ -23,6 +23,7 @@ FrameBytes [] = Unit {0}
 FrameBytes (f ∷ fs) = Bytes (frameBytes f) × FrameBytes fs
 
 -- ---- a frame and its bytes
+-- "one frame a line": the bytes of a frame are read as that frame
 pub frame-back : (f : Frame) → frameOf (frameBytes f) ≡ Good f
 unfolding frameOf frameBytes ofThree ofFour
 frame-back (Header s o r) = refl
@@ -61,6 +62,7 @@ four-bytes k a b c f = go (eqb k 1) (eqb k 3) refl refl
     go false true p q e = same-frame f (Permit a b c) _ e (kind k 3 _ q)
     go false false p q e = absurd (no-frame e)
 
+-- "Bytes of a frame": bytes that `frameOf` takes for a frame are the bytes of that frame
 pub frame-bytes : (bs : List ℕ) (f : Frame) → frameOf bs ≡ Good f → frameBytes f ≡ bs
 unfolding frameOf
 frame-bytes [] f e = absurd (no-frame e)

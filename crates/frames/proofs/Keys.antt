@@ -27,6 +27,7 @@ two-bytes (Permit r o m) h = (h .1 .0, h .1 .1 .0)
 two-bytes (Separate x y) h = (h .1 .0, h .1 .1 .0)
 two-bytes (End v l) h = (h .1 .0, h .1 .1 .0)
 
+-- "by first byte, then by the two bytes after it (the mode takes no part)": of frames whose numbers are bytes, `key` ascends exactly so
 pub key-order : (f g : Frame) → Bytes (frameBytes f) → Bytes (frameBytes g) → key f < key g ↔ LineBefore f g
 key-order f g hf hg = (λ h. ascends h (decLt (byteOf f 0) (byteOf g 0)), below)
   where

@@ -46,6 +46,7 @@ module _ (k : Passed) where
   unfolding tooMany
   separate-room x y = below _ _
 
+  -- "05 h l | end; h x 256 + l lines came before it": an end line passes "9 for the end count" exactly if so many came before it
   pub end-count : (h l : ℕ) → (miscounted k (End h l) ≡ false) ↔ (h * 256 + l ≡ k .lines)
   unfolding miscounted
   end-count h l = (λ e. eqb-true _ _ (not-false _ e), λ e. rw (eq-eqb _ _ e))

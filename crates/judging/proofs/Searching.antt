@@ -1,4 +1,4 @@
--- The row that is held tells whether a separation is broken, and what is found is the verdict.
+-- The row that is held tells whether a separation is broken, and what is found is the judgement.
 use Prim.Native.Nat.{ℕ, _<_}
 use mathlib.Core.Path.{_≡_, refl}
 use mathlib.Core.Logic.{_≢_}

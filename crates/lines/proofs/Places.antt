@@ -22,6 +22,7 @@ unfolding sizeOf whole
 whole-size [] = refl
 whole-size (l ∷ ls) = omega (arith, text-size l, whole-size ls, length-append (lineText l) (whole ls))
 
+-- "a part of the caller's own text": the lines with their line feeds have together as many bytes as the text
 pub size-lines : (t : List ℕ) → sizeOf (lines t) ≡ length t
 size-lines t = whole-size (lines t) ∙ ap length (whole-lines t)
 
@@ -51,6 +52,7 @@ bytes-at [] (suc k) = refl
 bytes-at (l ∷ ls) zero = rw append-assoc (take-append-seam (l .bytes) _)
 bytes-at (l ∷ ls) (suc k) = rw (← text-size l, drop-append-add) (bytes-at ls k)
 
+-- "without its line feed", "Lines count from 1": from start to end of line number k + 1 stand the bytes of that line, or none if it is missing
 pub line-bytes : (t : List ℕ) (k : ℕ) → take (lineEnd t (suc k) - lineStart t (suc k)) (drop (lineStart t (suc k)) t) ≡ lineBytes t k
 unfolding lineEnd lineStart
 line-bytes t k =
@@ -58,11 +60,12 @@ line-bytes t k =
     let size : start + length (lineBytes t k) - start ≡ length (lineBytes t k) = omega arith in
     rw size (rw (whole-lines t) at (bytes-at (lines t) k))
 
--- ---- "If there is no such line, the part is the empty one at the text's end"
+-- "If there is no such line, the part is the empty one at the text's end"
 pub line-zero : (t : List ℕ) → (lineStart t 0 ≡ length t) × (lineEnd t 0 ≡ length t)
 unfolding lineEnd lineStart
 line-zero t = (refl, refl)
 
+-- "If there is no such line, the part is the empty one at the text's end": a number above the count of lines starts and ends there
 pub line-missing : (t : List ℕ) (k : ℕ) → length (lines t) ≤ k → (lineStart t (suc k) ≡ length t) × (lineEnd t (suc k) ≡ length t)
 unfolding lineEnd lineStart
 line-missing t k h =

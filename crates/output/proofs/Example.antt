@@ -16,9 +16,9 @@ use Rattle.digits.specs.Digit.{digitByte, toDigits}
 use Rattle.digits.specs.Line.{lineOf}
 use Rattle.digits.specs.Text.{codes}
 use Rattle.access.specs.Channel.{Channel, reads, writes}
-use Rattle.text.proofs.Worked.{reading}
+use Rattle.text.proofs.AText.{reading}
 use Rattle.separations.specs.Judgement.{Broken, AllHold}
-use Rattle.separations.proofs.Example.{Hop, hop01, hop12, rises}
+use Rattle.separations.proofs.ACase.{Hop, hop01, hop12, rises}
 use Rattle.output.specs.Output.{EntityLine, EntityLines, none as start, next, VerdictLine, hold, broken, refusalLine, refusal, sheet-lines, Output}
 
 -- ---- 0 flows to 1, and each to itself
@@ -85,9 +85,40 @@ of-1 =
     byte (suc zero) h = one refl stay-1
     byte (suc (suc y)) h = absurd (omega arith)
 
+-- "A line 81 is entity, class name, flags .., label size": of 0 and 1, where 0 flows to 1 and each to itself
 two-lines : EntityLines 2 Up 2 (codes "8100000201\n8101010102\n")
 unfolding codes digitByte toDigits lineOf
 two-lines = next (next start of-0) of-1
+
+-- ---- 0 and 1 flow to each other
+data Both : ℕ → ℕ → Type 0 where
+  each : {x y : ℕ} → x < 2 → y < 2 → Both x y
+
+-- "entity, class name": 1 is of the class named 0, keeps nothing to itself, and has a label of two
+of-a-class : EntityLine 2 Both 1 (0x81 ∷ 1 ∷ 0 ∷ 0 ∷ 2 ∷ [])
+unfolding count
+of-a-class =
+    record {
+      class = 0;
+      flags = 0;
+      size = 2;
+      named = record { below = lit< tt; member = record { there = each (lit< tt) (lit< tt); back = each (lit< tt) (lit< tt) }; smallest = λ z _ _. omega arith };
+      greatest =
+          record {
+            secrecy = 0;
+            integrity = 0;
+            secret = none refl (λ g. omega (arith, g 0 (lit< tt) (each (lit< tt) (lit< tt))));
+            integral = none refl (λ g. omega (arith, g 0 (lit< tt) (each (lit< tt) (lit< tt))));
+            summed = refl;
+          };
+      label = record { row = 1 ∷ 1 ∷ []; label = record { size = refl; bytes = byte }; counted = refl };
+      bytes-are = refl;
+    }
+  where
+    byte : (y : ℕ) → y < 2 → Mark (Both y 1) (getD (1 ∷ 1 ∷ []) y 0)
+    byte zero h = one refl (each (lit< tt) (lit< tt))
+    byte (suc zero) h = one refl (each (lit< tt) (lit< tt))
+    byte (suc (suc y)) h = absurd (omega arith)
 
 -- ---- the line of the verdict: of 2 to 0 and 0 to 2 the second, at position 1, is broken by a chain of three
 nothing-from-2 : {a b : ℕ} → Hop a b → a ≡ 2 → ⊥
@@ -106,6 +137,7 @@ best =
       smallest = λ m c e. rw (only-chain c) (equal (equal (equal ended)));
     }
 
+-- "else 01, position, count of entities in the chain, the chain": 01, position 1, three entities, the chain 0, 1, 2
 broken-line : VerdictLine Hop 2 (2 ∷ 0 ∷ 0 ∷ 2 ∷ []) (0x82 ∷ 1 ∷ 1 ∷ 3 ∷ 0 ∷ 1 ∷ 2 ∷ [])
 broken-line = broken (record { below = lit< tt; broken = flows-on hop01 hop12; before = first-holds }) best
   where
@@ -176,6 +208,7 @@ pair-line x h row l e =
       bytes-are = refl;
     }
 
+-- "A line 82 is 00 if all hold": the whole output for two subjects and a separation from 0 to 1, which holds
 pair-output : Output (codes "01020000\n040001\n050002\n") (codes "8100000301\n8101010301\n8200\n")
 unfolding reading codes digitByte toDigits lineOf count
 pair-output =
@@ -214,6 +247,6 @@ unfolding reading codes digitByte toDigits lineOf refusalLine
 empty-output = refusal refl
 
 -- "the line as two bytes, high byte first"
-late-line : refusalLine 7 258 ≡ codes "80070102\n"
+late-line : refusalLine 7 65281 ≡ codes "8007ff01\n"
 unfolding codes digitByte toDigits lineOf refusalLine
 late-line = refl

@@ -21,21 +21,22 @@ module _ {n : ℕ} {R : ℕ → ℕ → Type 0} where
   one-entity-lines none none = refl
   one-entity-lines (next p l) (next q m) = ap₂ (λ (u v : List ℕ). u ++ lineOf v) (one-entity-lines p q) (one-entity-line l m)
 
-one-verdict-line : {ch : ℕ → ℕ → Type 0} {count : ℕ} {separations a b : List ℕ} → VerdictLine ch count separations a → VerdictLine ch count separations b → a ≡ b
-one-verdict-line (hold all) (hold all′) = refl
-one-verdict-line (hold all) (broken p b) = absurd (not-both p all)
-one-verdict-line (broken p b) (hold all) = absurd (not-both p all)
-one-verdict-line (broken p b) (broken q c) = let same = one-finding p q b c in rw (same .0, same .1)
+one-judgement-line : {ch : ℕ → ℕ → Type 0} {count : ℕ} {separations a b : List ℕ} → VerdictLine ch count separations a → VerdictLine ch count separations b → a ≡ b
+one-judgement-line (hold all) (hold all′) = refl
+one-judgement-line (hold all) (broken p b) = absurd (not-both p all)
+one-judgement-line (broken p b) (hold all) = absurd (not-both p all)
+one-judgement-line (broken p b) (broken q c) = let same = one-finding p q b c in rw (same .0, same .1)
 
 one-sheet : {t : Sheet} {a b : List ℕ} → SheetLines t a → SheetLines t b → a ≡ b
 one-sheet p q =
     let lines : p .entity-lines ≡ q .entity-lines = one-entity-lines (p .each) (q .each) in
-    let line : p .verdict-line ≡ q .verdict-line = one-verdict-line (p .verdict) (q .verdict) in
+    let line : p .verdict-line ≡ q .verdict-line = one-judgement-line (p .verdict) (q .verdict) in
     p .whole ∙ rw (lines, line) (sym (q .whole))
 
 one-print : {r : Read} {a b : List ℕ} → Printed r a → Printed r b → a ≡ b
 one-print (refusal e) (refusal f) = e ∙ sym f
 one-print (sheet-lines p) (sheet-lines q) = one-sheet p q
 
+-- "The program and its whole output": two outputs of one text are equal
 pub output-determined : (text a b : List ℕ) → Output text a → Output text b → a ≡ b
 output-determined text a b = one-print

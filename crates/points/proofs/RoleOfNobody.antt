@@ -8,7 +8,7 @@ use native.Mathlib.Omega.{arith}
 use Rattle.tables.specs.Sheet.{Sheet, sheet, modeByte}
 use Rattle.access.specs.Channel.{Has, Assigned, Channel}
 use Rattle.access.proofs.Channels.{channel-without}
-use Rattle.text.proofs.Worked.{worked}
+use Rattle.text.proofs.AText.{worked}
 use Rattle.theory.specs.Laws.{Contains}
 
 without : Sheet
@@ -39,10 +39,12 @@ same-bytes (suc (suc zero)) (suc (suc (suc o))) hr ho ne = absurd (omega arith)
 same-bytes (suc (suc (suc zero))) o hr ho ne = absurd (ne refl)
 same-bytes (suc (suc (suc (suc r)))) o hr ho ne = absurd (omega arith)
 
+-- "A role assigned to nobody makes no channel": each channel of the printed sheet is one also where role 3 holds nothing
 each-kept : Contains (Channel without) (Channel worked)
 unfolding worked without
 each-kept = channel-without 3 nobody (λ r o m hr ho ne. subst (λ (b : ℕ). Has b m) (same-bytes r o hr ho ne))
 
+-- the other way round: where role 3 holds nothing, there is no channel that the printed sheet lacks
 none-new : Contains (Channel worked) (Channel without)
 unfolding worked without
 none-new = channel-without 3 nobody (λ r o m hr ho ne. subst (λ (b : ℕ). Has b m) (sym (same-bytes r o hr ho ne)))

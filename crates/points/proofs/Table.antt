@@ -10,7 +10,7 @@ use Rattle.access.specs.Channel.{Channel}
 use Rattle.change.specs.Change.{withPermission}
 use Rattle.text.specs.Reading.{accepted, readText}
 use Rattle.text.specs.Worked.{workedText}
-use Rattle.text.proofs.Worked.{worked, reads-worked}
+use Rattle.text.proofs.AText.{worked, reads-worked}
 use Rattle.transfers.specs.declared.Act.the-variants.{Moves, NotPermitted}
 use Rattle.transfers.specs.Acts.{verdictBytes, after, none, next}
 use Rattle.transfers.specs.Transfers.{toSubject, toObject, moves, barred}
@@ -40,6 +40,7 @@ unfolding worked channelb
 unfolding worked channelb
 1-to-4 = channel 1 4 (lit< tt) (lit< tt) refl
 
+-- "these thirteen .., all as a single table": of the printed sheet's tables; `points` has them of what is read
 pub worked-points : Points worked
 unfolding worked withPermission chainb channelb flowb noneb together verdictBytes after
 worked-points =

@@ -14,7 +14,7 @@ use Rattle.digits.specs.Line.{lineOf}
 use Rattle.digits.specs.Text.{codes}
 use Rattle.access.specs.Channel.{Channel}
 use Rattle.text.specs.Worked.{workedText}
-use Rattle.text.proofs.Worked.{worked, reads-worked}
+use Rattle.text.proofs.AText.{worked, reads-worked}
 use Rattle.output.specs.Output.{EntityLine, none, next, broken, sheet-lines, Output}
 use Rattle.points.proofs.Computed.{chainb}
 use Rattle.points.proofs.ComputedSheet.{channelb, sheet-flows, sheet-chain}
@@ -37,6 +37,7 @@ module _ (t : Sheet) (x name : ℕ) (row : List ℕ) (hx : x < entities (t .coun
         bytes-are = refl;
       }
 
+-- "The program and its whole output": the printed output is an output of the printed input
 pub worked-output : Output workedText printed
 unfolding worked printed codes digitByte toDigits lineOf chainb channelb flowb noneb others together flags count
 worked-output =

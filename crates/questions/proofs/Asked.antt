@@ -28,11 +28,13 @@ both-passed n table x y e =
     let second = passed _ _ _ tt (first .1) in
     record { accepted = flow-passed false n table (p .0) .1; source = leb-false _ _ (first .0); target = leb-false _ _ (second .0) }
 
+-- "Questions on a flow table are defined by its bytes alone": if these are sound, x below N and no buffer short, one on x is not refused
 pub asked-pass : (n : ℕ) (table : List ℕ) → SoundFlow n table → (short : Bool) → short ≡ false → (x : ℕ) → x < n → firstRefusal (flowRefusals short n table then entityRefusals n x) ≡ 0
 unfolding entityRefusals
 asked-pass n table a short s x h =
     pass-then (flowRefusals short n table) _ (flow-numbered short n table) (flow-pass n table a short s) (pass 10 _ _ (lt-leb _ _ h) none-left)
 
+-- the same of a question on two entities: if the bytes are sound, and x and y below N, it is not refused
 pub both-pass : (n : ℕ) (table : List ℕ) → SoundFlow n table → (x y : ℕ) → x < n → y < n → firstRefusal (bothAskedRefusals n table x y) ≡ 0
 unfolding bothAskedRefusals pairAskedRefusals
 both-pass n table a x y hx hy =

@@ -20,15 +20,19 @@ one-answer : {Right : ℕ → Type 0} → ((a b : ℕ) → Right a → Right b �
 one-answer one p q i = record { answer = (p .answer ∙ sym (q .answer)) i; value = one _ _ (p .right) (q .right) i }
 
 module _ (n : ℕ) (table : List ℕ) (x : ℕ) where
+  -- "no second answer satisfies it": two results of `flows` on the same input are equal, answer and value
   pub flows-determined : (y : ℕ) (r₁ r₂ : Told) → Flows n table x y r₁ → Flows n table x y r₂ → r₁ ≡ r₂
   flows-determined y r₁ r₂ = determined (λ _. one-answer (λ _ _. one-mark))
 
+  -- "no second answer satisfies it": two results of `class_name` on the same input are equal, answer and value
   pub class-name-determined : (r₁ r₂ : Told) → Names n table x r₁ → Names n table x r₂ → r₁ ≡ r₂
   class-name-determined r₁ r₂ = determined (λ _. one-answer (λ _ _. one-class))
 
+  -- "no second answer satisfies it": two results of `greatest` on the same input are equal, answer and value
   pub greatest-determined : (r₁ r₂ : Told) → Flags n table x r₁ → Flags n table x r₂ → r₁ ≡ r₂
   greatest-determined r₁ r₂ = determined (λ _. one-answer (λ _ _. one-greatest))
 
+  -- "no second answer satisfies it": two results of `label` on the same input are equal, answer, size and every byte of the buffer
   pub label-determined : (before : List ℕ) (r₁ r₂ : Told × List ℕ) → Labels n table x before r₁ → Labels n table x before r₂ → r₁ ≡ r₂
   label-determined before r₁ r₂ =
       determined
@@ -51,9 +55,11 @@ case-of Above = refl
 case-of Incomparable = refl
 case-of (Refused n) = refl
 
+-- "a definition gives this paper's number and values for each of its cases": no two answers of `compare` have the same number and order
 pub comparison-tells : (a b : Compared) → comparison a ≡ comparison b → a ≡ b
 comparison-tells a b e = sym (case-of a) ∙ ap (λ (c : Comparison). caseOf (c .number) (c .order)) e ∙ case-of b
 
+-- "no second answer satisfies it": two answers of `compare` on the same input are equal
 pub compare-determined : (n : ℕ) (table : List ℕ) (x y : ℕ) (r₁ r₂ : Compared) → ComparesTo n table x y r₁ → ComparesTo n table x y r₂ → r₁ ≡ r₂
 unfolding ComparesTo
 compare-determined n table x y r₁ r₂ p q =

@@ -12,10 +12,12 @@ use Rattle.transfers.proofs.Acting.{one-act}
 use Rattle.rehearsal.specs.Calls.{RehearsesFlat, RehearsesRecords}
 
 module _ (l : Lent) {marks verdicts : List ℕ} {t : Tally} {r r′ : Rehearsed} where
+  -- "no second answer satisfies it": two results of `rehearse` on the same input are equal: answer, count, marks, verdict bytes and tally
   pub rehearse-determined : (transfers : List ℕ) →
       RehearsesFlat l transfers marks verdicts t r → RehearsesFlat l transfers marks verdicts t r′ → r ≡ r′
   rehearse-determined transfers = determined (λ _ p q. one-rehearsal one-act p q)
 
+  -- "no second answer satisfies it": two results of `rehearse_records` on the same input are equal: answer, count, marks, verdicts and tally
   pub rehearse-records-determined : (transfers : List Transfer) →
       RehearsesRecords l transfers marks verdicts t r → RehearsesRecords l transfers marks verdicts t r′ → r ≡ r′
   rehearse-records-determined transfers = determined (λ _ p q. one-rehearsal one-act p q)

@@ -22,16 +22,20 @@ outcome-agrees {refused = refused} e done o =
 
 module _ (l : Lent) (marks verdicts : List ℕ) (t : Tally) {r : Rehearsed} where
   module _ (ts : List Transfer) where
+    -- "and answers the same": each result of `rehearse` on the flat bytes of records is one of `rehearse_records` on the records
     pub flat-as-records : RehearsesFlat l (flatBytes ts) marks verdicts t r → RehearsesRecords l ts marks verdicts t r
     flat-as-records = outcome-agrees (entries-refuse-alike l ts marks verdicts t) (λ d. rw (flat-and-back ts) at d)
 
+    -- "and answers the same": each result of `rehearse_records` on records is one of `rehearse` on their flat bytes
     pub records-as-flat : RehearsesRecords l ts marks verdicts t r → RehearsesFlat l (flatBytes ts) marks verdicts t r
     records-as-flat = outcome-agrees (sym (entries-refuse-alike l ts marks verdicts t)) (λ d. rw (flat-and-back ts) d)
 
   -- and so for every flat list of whole threes
   module _ (bytes : List ℕ) (whole : length bytes % 3 ≡ 0) where
+    -- "and answers the same": each result of `rehearse` on bytes in whole threes is one of `rehearse_records` on the transfers that they are
     pub threes-as-records : RehearsesFlat l bytes marks verdicts t r → RehearsesRecords l (flatTransfers bytes) marks verdicts t r
     threes-as-records o = flat-as-records (flatTransfers bytes) (rw (back-and-flat bytes whole) o)
 
+    -- "and answers the same": each result of `rehearse_records` on transfers read from whole threes is one of `rehearse` on those bytes
     pub records-as-threes : RehearsesRecords l (flatTransfers bytes) marks verdicts t r → RehearsesFlat l bytes marks verdicts t r
     records-as-threes o = rw (back-and-flat bytes whole) at (records-as-flat (flatTransfers bytes) o)

@@ -1,4 +1,5 @@
 -- What holds of the calls: one answer, both entries alike, and demand 3. Read in this order.
+pub mod ACase
 pub mod Determined
 pub mod Accepted
 pub mod Entries
@@ -7,7 +8,6 @@ pub mod ShownChain
 pub mod SmallSheet
 pub mod SmallCalls
 pub mod Instances
-pub mod RefusalOrder
 -- For the proofs of functions. The walks are written by tools/walks.py, since the borrow checker covers no reference to a struct.
 pub mod Settled
 pub mod Again

@@ -19,6 +19,7 @@ use Rattle.rehearsal.proofs.Accepted.{passed-room, flat-refused-alike, 
 -- "Both rehearsals give equal answers and counts, and an entity whose label lacks x ends with equal marks", also where they are refused
 module _ (l : Lent) {marks marks′ verdicts verdicts′ : List ℕ} (t : Tally) {x : ℕ}
     (two : TwoLendings (entities (l .counts)) x marks marks′ verdicts verdicts′) {r r′ : Rehearsed} where
+  -- "Both rehearsals give equal answers and counts, and an entity whose label lacks x ends with equal marks": of two calls of `rehearse`
   pub flat-alike : (transfers : List ℕ) →
       RehearsesFlat l transfers marks verdicts t r → RehearsesFlat l transfers marks′ verdicts′ t r′ →
       Alike (entities (l .counts)) (Channel (sheetIn l)) x (length transfers / 3) r r′
@@ -28,6 +29,7 @@ module _ (l : Lent) {marks marks′ verdicts verdicts′ : List ℕ} (t : Tally)
       (outcomes-alike channel-inside comes-along one-act (two .starts) (flat-refused-alike two l t transfers)
       (λ none. passed-room l marks verdicts _ _ none .room) p q)
 
+  -- "equal answers and counts, and an entity whose label lacks x ends with equal marks": of two calls of `rehearse_records`
   pub records-alike : (ts : List Transfer) →
       RehearsesRecords l ts marks verdicts t r → RehearsesRecords l ts marks′ verdicts′ t r′ →
       Alike (entities (l .counts)) (Channel (sheetIn l)) x (length ts) r r′

@@ -55,6 +55,7 @@ module _ (l : Lent) {x y : ℕ} {chain : List ℕ} (best : Best (Channel (sheetI
         RehearsesChain l chain marks verdicts t r → RehearsesChain l chain marks′ verdicts′ t r′ → Reached (length chain - 1) y r r′
     accepted-records-reach e p q = passed-reach (answered (λ r. r .answer) (λ _. refl) p e) p q
 
+    -- "an accepted rehearsal of the shown chain's transfers ends .. with different marks at y": of two calls of `rehearse`, the first accepted
     pub accepted-flat-reach : r .answer ≡ 0 →
         RehearsesChainFlat l chain marks verdicts t r → RehearsesChainFlat l chain marks′ verdicts′ t r′ → Reached (length chain - 1) y r r′
     accepted-flat-reach e p q =
@@ -69,6 +70,7 @@ module _ (l : Lent) {x y : ℕ} {chain : List ℕ} (best : Best (Channel (sheetI
         let size = chain-transfers-length (l .counts) (best .chain) in
         passed-reach (records-pass l _ marks verdicts t ready (omega arith)) p q
 
+    -- the same of two calls of `rehearse`: where sheet, buffers and tally pass, both are accepted and end "with different marks at y"
     pub flat-reach : Ready l marks verdicts t →
         RehearsesChainFlat l chain marks verdicts t r → RehearsesChainFlat l chain marks′ verdicts′ t r′ → Reached (length chain - 1) y r r′
     flat-reach ready p q = records-reach ready (flat-as-records l marks verdicts t _ p) (flat-as-records l marks′ verdicts′ t _ q)
@@ -77,12 +79,14 @@ module _ (l : Lent) {x y : ℕ} {chain : List ℕ} (best : Best (Channel (sheetI
 module _ (l : Lent) {marks marks′ verdicts verdicts′ : List ℕ} (t : Tally) {x y : ℕ}
     (two : TwoLendings (entities (l .counts)) x marks marks′ verdicts verdicts′) (ready : Ready l marks verdicts t)
     (holds : InLabel (Flow (Channel (sheetIn l))) y x) where
+  -- "If y's label holds x" there is a shown chain whose transfers `rehearse_records` accepts, ending "with different marks at y"
   pub label-reaches-records : (chain : List ℕ) × Best (Channel (sheetIn l)) x y chain × ((r r′ : Rehearsed) →
       RehearsesChain l chain marks verdicts t r → RehearsesChain l chain marks′ verdicts′ t r′ → Reached (length chain - 1) y r r′)
   label-reaches-records =
       let (chain, best) = sheet-chain-exists (sheetIn l) holds in
       (chain, best, λ _ _. records-reach l best t two ready)
 
+  -- "If y's label holds x" there is a shown chain whose transfers, as flat bytes, `rehearse` accepts, ending "with different marks at y"
   pub label-reaches-flat : (chain : List ℕ) × Best (Channel (sheetIn l)) x y chain × ((r r′ : Rehearsed) →
       RehearsesChainFlat l chain marks verdicts t r → RehearsesChainFlat l chain marks′ verdicts′ t r′ → Reached (length chain - 1) y r r′)
   label-reaches-flat =

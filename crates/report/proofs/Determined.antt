@@ -10,6 +10,7 @@ use Rattle.answers.proofs.Calls.{determined}
 use Rattle.report.specs.Report.{Reports}
 use Rattle.output.proofs.Outputs.{output-determined}
 
+-- "no second answer satisfies it": two results of `report` on the same input are equal: answer, length and every byte of the buffer
 pub report-determined : (text before : List ℕ) (r₁ r₂ : Told × List ℕ) → Reports text before r₁ → Reports text before r₂ → r₁ ≡ r₂
 report-determined text before r₁ r₂ =
     determined

@@ -107,6 +107,7 @@ module _ {text : List ℕ} {lent : Tables} {result : ReadResult} (d : ReadDone l
 
 -- ---- the call
 module _ (text before : List ℕ) where
+  -- "1 | a lent buffer is shorter than its least length": told by 1, and nothing is written
   pub too-short : length before < leastOutput → Reports text before (told 1 0, before)
   unfolding reportRefusals firstRefusal
   too-short h = refuse 1 (rw (lt-ltb _ _ h)) (λ z. omega arith) refl

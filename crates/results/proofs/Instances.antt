@@ -46,6 +46,7 @@ fills : Fills tables buffer (0, table)
 unfolding firstRefusal _then_ anyBelow sheetRefusals sizeRefusals usedRefusals fillRefusals tables sheetOf
 fills = accept refl (refl, filled buffer)
 
+-- met by the table that `fill` wrote for this sheet: each question on 0, or on 0 and 1, answers 0 and what is right of the sheet's flow
 tell : QuestionsTell 2 (SheetFlow (sheetIn tables)) table 0 1
 unfolding tables
 tell = filled-questions-tell tables buffer table fills 0 1 (lit< tt) (lit< tt)
@@ -61,6 +62,7 @@ unfolding over
 flows-call : Flows 2 table 0 1 (told 0 1)
 flows-call = accept (both-pass 2 table sound 0 1 (lit< tt) (lit< tt)) (record { answer = refl; right = one refl 0-to-1 })
 
+-- met by a call of `flows` on that table: it told 1, and in the sheet 0 flows to 1
 told-1 : Mark (SheetFlow (sheetIn tables) 0 1) 1
 told-1 = tell .flows _ flows-call .right
 
@@ -87,13 +89,14 @@ label-of-1 = label-call 1 (lit< tt) (1 ∷ 1 ∷ []) (record { size = refl; byte
     byte (suc zero) h = one refl (record { source = h; target = h; byte = refl })
     byte (suc (suc z)) h = absurd (omega arith)
 
--- so 1 does not flow to 0; and `flows` told that 0 flows to 1, so each 1 of 0's label is a 1 of 1's
+-- met by the labels of both: one byte of 1's label is none of 0's, so 1 does not flow to 0
 1-not-to-0 : SheetFlow (sheetIn tables) 1 0 → ⊥
 unfolding tables over before
 1-not-to-0 f =
     let e = flow-by-labels tables buffer table fills 1 0 (lit< tt) (lit< tt) before before (lit≤ tt) (lit≤ tt) _ _ label-of-1 label-of-0 .included f 1 (lit< tt) refl in
     omega arith
 
+-- met by what `label` wrote for 0 and 1, since `flows` told 1: each of the first two bytes that is 1 in 0's label is 1 in 1's
 0-in-1 : IncludedBytes 2 (over (1 ∷ 0 ∷ []) before) (over (1 ∷ 1 ∷ []) before)
 unfolding tables before
 0-in-1 = told-by-labels tables buffer table fills 0 1 (lit< tt) (lit< tt) before before (lit≤ tt) (lit≤ tt) _ _ label-of-0 label-of-1 _ flows-call .included refl
@@ -115,16 +118,19 @@ judges =
     accept refl
     (broken 0 chain (record { below = lit< tt; broken = chain-flow (sheet-best .chain); before = λ j h. absurd (omega arith) }) sheet-best refl)
 
+-- met by a call of `chain` from 0 to 1, which told 3 entities: 0, 2, 1 is the shown chain, and data of 0 moves to 1 along it
 told-by-chain : ChainTold sheet 0 1 3 (0 ∷ 2 ∷ 1 ∷ replicate 109 9)
 told-by-chain = shown-chain-reaches sheet 0 1 before _ _ shows refl
 
+-- met by a call of `judge`, which told 14, position 0 and 3 entities: 0, 2, 1 is the shown chain, and data of 0 moves to 1 along it
 told-by-judge : ChainTold sheet 0 1 3 (0 ∷ 2 ∷ 1 ∷ replicate 109 9)
 unfolding separations
 told-by-judge = judged-chain-reaches sheet 1 separations before _ _ judges refl
 
--- data of 0 moves to 1 along it, by both entries
+-- met by the flat transfers of that chain: the marks of 1 differ
 flat-reached : Reached 2 1 (result 7 0 9) (result 9 0 5)
 flat-reached = told-by-chain .flat _ _ _ _ newTally lent-0 (ready 7 0 9) _ _ (call-flat 7 0 9) (call-flat 9 0 5)
 
+-- met by the chain that `judge` told, rehearsed as records from marks 7 and 9 of entity 0: different marks at 1
 records-reached : Reached 2 1 (result 7 0 9) (result 9 0 5)
 records-reached = told-by-judge .records _ _ _ _ newTally lent-0 (ready 7 0 9) _ _ (call 7 0 9) (call 9 0 5)

@@ -19,8 +19,8 @@ one-shown (missing none e) (shown l b f) = absurd (none (chain-flow (b .chain)))
 one-shown (missing none e) (missing none′ f) = e ∙ sym f
 
 module _ {ch : ℕ → ℕ → Type 0} {count : ℕ} {separations before : List ℕ} where
-  pub one-verdict : {r₁ r₂ : Judged × List ℕ} → Judgement ch count separations before r₁ → Judgement ch count separations before r₂ → r₁ ≡ r₂
-  one-verdict (hold all e) (hold all′ f) = e ∙ sym f
-  one-verdict (hold all e) (broken i l p b f) = absurd (not-both p all)
-  one-verdict (broken i l p b e) (hold all f) = absurd (not-both p all)
-  one-verdict (broken i l p b e) (broken j m q c f) = let same = one-finding p q b c in e ∙ rw (same .0, same .1) (sym f)
+  pub one-judgement : {r₁ r₂ : Judged × List ℕ} → Judgement ch count separations before r₁ → Judgement ch count separations before r₂ → r₁ ≡ r₂
+  one-judgement (hold all e) (hold all′ f) = e ∙ sym f
+  one-judgement (hold all e) (broken i l p b f) = absurd (not-both p all)
+  one-judgement (broken i l p b e) (hold all f) = absurd (not-both p all)
+  one-judgement (broken i l p b e) (broken j m q c f) = let same = one-finding p q b c in e ∙ rw (same .0, same .1) (sym f)

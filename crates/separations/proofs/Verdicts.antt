@@ -15,10 +15,11 @@ use Rattle.access.proofs.Decided.{sheet-flow-decided}
 use Rattle.separations.specs.Judgement.{Broken, FirstBroken, AllHold}
 
 module _ (ch : ℕ → ℕ → Type 0) (separations : List ℕ) where
-  -- "one is broken exactly if such a chain exists"
+  -- "one is broken exactly if such a chain exists": where it is broken, there is a chain
   pub broken-chain : (i : ℕ) → Broken ch separations i → (l : List ℕ) × Chain ch (from separations i) (to separations i) l
   broken-chain i b = flow-chain b
 
+  -- "one is broken exactly if such a chain exists", the other way: any chain from its first entity to its second breaks separation i
   pub chain-broken : (i : ℕ) {l : List ℕ} → Chain ch (from separations i) (to separations i) l → Broken ch separations i
   chain-broken i c = chain-flow c
 
@@ -27,7 +28,7 @@ module _ (ch : ℕ → ℕ → Type 0) (separations : List ℕ) where
   self-broken i e = subst (Flow ch (from separations i)) e here
 
 module _ {ch : ℕ → ℕ → Type 0} {separations : List ℕ} where
-  -- there is one first broken separation, and none where all hold
+  -- "The first broken one": there is one at most
   pub one-first : {count i j : ℕ} → FirstBroken ch count separations i → FirstBroken ch count separations j → i ≡ j
   one-first {i = i} {j = j} p q = go (decLt i j) (decLt j i)
     where
@@ -36,6 +37,7 @@ module _ {ch : ℕ → ℕ → Type 0} {separations : List ℕ} where
       go (no h) (yes g) = absurd (p .before j g (q .broken))
       go (no h) (no g) = omega arith
 
+  -- "The first broken separation is named": where there is a first broken one, not all hold
   pub not-both : {count i : ℕ} → FirstBroken ch count separations i → AllHold ch count separations → ⊥
   not-both {i = i} p all = all i (p .below) (p .broken)
 

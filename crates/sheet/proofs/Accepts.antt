@@ -16,6 +16,7 @@ use Rattle.sheet.specs.Write.{writeRefusals, LongToWrite}
 use Rattle.sheet.proofs.Wrote.{past-tables}
 
 module _ (l : Lent) (count : ℕ) (separations text : List ℕ) where
+  -- "comes exactly where that document says": `write` refuses no sound sheet whose separations are all lent, where no buffer is short
   pub refuses-none : Sound (sheetOf l count separations) → 2 * count ≤ length separations → LongToWrite l separations text →
       firstRefusal (writeRefusals l count separations text) ≡ 0
   unfolding writeRefusals
@@ -29,6 +30,7 @@ module _ (l : Lent) (count : ℕ) (separations text : List ℕ) where
       }))
       (separations-pass _ separations count (listed-of l count separations p room))
 
+  -- "comes exactly where that document says": `write` refuses nothing only of a sound sheet, its separations all lent, and no buffer short
   pub refused-none : firstRefusal (writeRefusals l count separations text) ≡ 0 → Sound (sheetOf l count separations) × (2 * count ≤ length separations) × LongToWrite l separations text
   unfolding writeRefusals
   refused-none e =

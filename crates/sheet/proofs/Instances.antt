@@ -12,7 +12,7 @@ use Rattle.answers.proofs.Calls.{accept}
 use Rattle.tables.specs.Sheet.{Sound}
 use Rattle.text.specs.Content.{writeSheet}
 use Rattle.text.specs.Worked.{workedText}
-use Rattle.text.proofs.Worked.{reading, worked, reads-worked}
+use Rattle.text.proofs.AText.{reading, worked, reads-worked}
 use Rattle.text.proofs.RoundTrip.{worked-sound}
 use Rattle.text.proofs.RefusedLines.{overSize, over-size}
 use Rattle.reader.specs.Fill.{Tables, tables, LongTables}
@@ -66,19 +66,22 @@ writes : WritesRead result text written
 unfolding written
 writes = accept (refuses-none _ _ _ _ (ready .0) (ready .1) (ready .2)) refl
 
+-- met by the tables that were read: none of the lists of `write` refuses them, and their text is written
 is-written : (written .0 .answer ≡ 0) × (written ≡ (told 0 (length (writeSheet (sheetRead result))), over (writeSheet (sheetRead result)) text))
 is-written = sound-written _ _ _ _ written writes (ready .0) (ready .1) (ready .2)
 
+-- met by the same call: it answered 0, so the tables are sound
 is-sound : Sound (sheetRead result)
 is-sound = written-sound _ _ _ _ written writes (is-written .0) .0
 
--- the text is written back, and the tables are read back
+-- the text is written back
 text-back : written ≡ (told 0 (length workedText), over workedText text)
 text-back = accepted-read-written workedText worked before result text written reads-worked long full reads writes
 
 reads-again : Reads (take (written .0 .value) (written .1)) before result
 reads-again = rw (text-back, used-part workedText text (length workedText) refl) reads
 
+-- met by the printed sheet, with buffers of least lengths: "sound tables written and read back are the same tables"
 tables-back : result ≡ tablesRead before (sheetRead result)
 tables-back = sound-written-read _ _ _ _ written before result (ready .0) (ready .1) (ready .2) long writes reads-again .1
 
@@ -90,6 +93,7 @@ empty-reads : Reads [] before of-nothing
 unfolding reading readResult of-nothing
 empty-reads = accept (lengths-pass before long) refl
 
+-- met by the empty text, with tables of least lengths: "empty text gives 9, line 1", and no table changes
 empty-not-read : (of-nothing .reading .answer ≡ 9) × (of-nothing .reading .line ≡ 1) × (of-nothing .tables ≡ before)
 unfolding reading
 empty-not-read =
@@ -99,6 +103,7 @@ empty-not-read =
 of-too-much : ReadResult
 of-too-much = notRead before 5 0
 
+-- met by a text of 44,241 bytes, with tables of least lengths: "5 for the text length", with line 0, and no table changes
 long-not-read : (of-too-much .reading .answer ≡ 5) × (of-too-much .reading .line ≡ 0) × (of-too-much .tables ≡ before)
 unfolding of-too-much
 long-not-read =

@@ -30,6 +30,7 @@ filled-as before after k t c f =
 
 -- ---- the ways out
 module _ (text : List ℕ) (before : Tables) where
+  -- "1, then 5 for the text length, both with line 0": what 1 refuses is told with line 0, whatever the text
   pub short-refused : (n : ℕ) → n ≡ firstRefusal (readRefusals before) → n ≢ 0 → Reads text before (notRead before n 0)
   short-refused n e some = refuse n e some refl
 

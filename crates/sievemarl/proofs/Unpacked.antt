@@ -13,14 +13,17 @@ use Rattle.sievemarl.specs.Packed.{packed}
 use Rattle.sievemarl.specs.ForC.{JudgesForC}
 
 module _ (j : Judged) (answer : j .answer < 256) (position : j .position < 256) where
+  -- "answer + 256 x position + 65,536 x chain count": modulo 256 it is the answer, where answer and position are below 256
   pub packed-answer : packed j % 256 ≡ j .answer
   unfolding packed
   packed-answer = omega arith
 
+  -- "256 x position": divided by 256 and then modulo 256 it is the position, where answer and position are below 256
   pub packed-position : packed j / 256 % 256 ≡ j .position
   unfolding packed
   packed-position = omega arith
 
+  -- "65,536 x chain count": divided by 65,536 it is the chain count, where answer and position are below 256
   pub packed-count : packed j / 65536 ≡ j .count
   unfolding packed
   packed-count = omega arith
@@ -35,12 +38,15 @@ module _ (l : Lent) (count : ℕ) (separations before : List ℕ) (result : ℕ 
   small : Small (c .judged)
   small = judged-small l count separations before (c .judges)
 
+  -- "judging returns answer + ..": the number that `sievemarl_judge` returns, modulo 256, is the answer of its judging, of a refusal too
   pub returned-answer : result .0 % 256 ≡ c .judged .answer
   returned-answer = rw (c .returned) (packed-answer (c .judged) (omega (arith, small .answer)) (omega (arith, small .position)))
 
+  -- ".. + 256 x position": the number that `sievemarl_judge` returns, divided by 256 and then modulo 256, is the position of its judging
   pub returned-position : result .0 / 256 % 256 ≡ c .judged .position
   returned-position = rw (c .returned) (packed-position (c .judged) (omega (arith, small .answer)) (omega (arith, small .position)))
 
+  -- ".. + 65,536 x chain count": the number that `sievemarl_judge` returns, divided by 65,536, is the chain count of its judging
   pub returned-count : result .0 / 65536 ≡ c .judged .count
   returned-count = rw (c .returned) (packed-count (c .judged) (omega (arith, small .answer)) (omega (arith, small .position)))
 

@@ -19,6 +19,7 @@ pub sheet-numbered : (short long : Bool) (l : Lent) → T (numbered (sheetRefusa
 unfolding _then_ sheetRefusals sizeRefusals usedRefusals
 sheet-numbered short long l = tt
 
+-- "comes exactly where that document says": where 1, 5 and 11 do not come, lengths, counts, bytes and the transfer list are in range
 pub tables-passed : (short long : Bool) (l : Lent) → firstRefusal (sheetRefusals short long l) ≡ 0 → Acceptable short long l
 unfolding _then_ sheetRefusals sizeRefusals usedRefusals
 tables-passed short long l e =
@@ -44,6 +45,7 @@ tables-passed short long l e =
           };
     }
 
+-- "comes exactly where that document says": where lengths, counts, bytes and the transfer list are in range, 1, 5 and 11 do not come
 pub tables-pass : (short long : Bool) (l : Lent) → Acceptable short long l → firstRefusal (sheetRefusals short long l) ≡ 0
 unfolding _then_ sheetRefusals sizeRefusals usedRefusals firstRefusal
 tables-pass short long l p =
@@ -98,6 +100,7 @@ module _ (n : ℕ) (separations : List ℕ) where
       pass 6 _ _ (lt-leb _ _ (p .low))
       (pass 6 _ _ (lt-leb _ _ (p .high)) (pass 7 _ _ (false-and (ltb 0 i) _ (λ e. lt-leb _ _ (p .after (ltb-true 0 i e)))) none-left))
 
+  -- "comes exactly where that document says": where 8, 6 and 7 do not come, separations are at most 64, between entities and ascending strictly
   pub separations-passed : (count : ℕ) → firstRefusal (separationRefusals n count separations) ≡ 0 → Listed n count separations
   unfolding separationRefusals
   separations-passed count e =
@@ -109,6 +112,7 @@ module _ (n : ℕ) (separations : List ℕ) where
         ascend = λ i h. let e : i + 1 - 1 ≡ i = omega arith in rw e at (pair (i + 1) h .after (omega arith));
       }
 
+  -- "comes exactly where that document says": where separations are at most 64, between entities and ascending strictly, 8, 6 and 7 do not come
   pub separations-pass : (count : ℕ) → Listed n count separations → firstRefusal (separationRefusals n count separations) ≡ 0
   unfolding separationRefusals
   separations-pass count l =

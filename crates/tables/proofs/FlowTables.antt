@@ -33,6 +33,7 @@ bytes-passed n table sized e =
       diagonal = λ x h. not-zero _ (none-of _ n (diagonal .0) x h);
     }
 
+-- "comes exactly where that document says": where 1, 5 and 12 do not come, the flow table is sound and no other buffer short
 pub flow-passed : (short : Bool) (n : ℕ) (table : List ℕ) → firstRefusal (flowRefusals short n table) ≡ 0 → (short ≡ false) × SoundFlow n table
 unfolding flowRefusals flowSizeRefusals
 flow-passed short n table e =
@@ -55,6 +56,7 @@ module _ (n : ℕ) (table : List ℕ) (a : SoundFlow n table) where
   unfolding firstRefusal byteRefusals
   bytes-pass = rw (all-within table (n * n) 1 (a .bits), all-fail _ n (λ x h. ne-eqb (at table n x x) 0 (a .diagonal x h)))
 
+  -- "comes exactly where that document says": where the flow table is sound and no other buffer short, 1, 5 and 12 do not come
   pub flow-pass : (short : Bool) → short ≡ false → firstRefusal (flowRefusals short n table) ≡ 0
   unfolding flowRefusals flowSizeRefusals
   flow-pass short s =

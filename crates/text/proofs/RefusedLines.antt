@@ -22,7 +22,7 @@ use Rattle.frames.specs.Check.{start, lineRefusals, nextLine, check, parsedLine
 use Rattle.frames.proofs.Checks.{check-go, check-stop, more-lines}
 use Rattle.text.specs.Content.{contentOf}
 use Rattle.text.specs.Reading.{refused, readBy, readLines, readText}
-use Rattle.text.proofs.Worked.{reading}
+use Rattle.text.proofs.AText.{reading}
 
 -- "5 for the text length, .. with line 0"
 pub over-size-refused : (text : List ℕ) → mostText < length text → readText text ≡ refused 5 0
@@ -33,6 +33,7 @@ over-size-refused text h = rw (lt-ltb mostText (length text) h)
 pub overSize : List ℕ
 overSize = replicate 44241 0
 
+-- met by a text of 44,241 bytes: one more than "sheet text, bytes | 44,240"
 pub over-size : mostText < length overSize
 unfolding overSize
 over-size = le-of-eq (sym (length-replicate {A = ℕ} 44241 0))

@@ -21,7 +21,7 @@ use Rattle.frames.proofs.Checks.{accepted-frames, frames-again}
 use Rattle.text.specs.Content.{contentOf, framesIn, writeSheet}
 use Rattle.text.specs.Reading.{refused, accepted, readBy, readLines, readText}
 use Rattle.text.specs.Worked.{workedText}
-use Rattle.text.proofs.Worked.{worked, reads-worked}
+use Rattle.text.proofs.AText.{worked, reads-worked}
 use Rattle.text.proofs.ReadBack.{read-back}
 use Rattle.text.proofs.WriteBack.{frames-pass}
 use Rattle.text.proofs.Added.{content-back}
@@ -49,17 +49,18 @@ written text t e =
 pub accepted-sound : (text : List ℕ) {t : Sheet} → readText text ≡ accepted t → Sound t
 accepted-sound text {t} e = written text t e .1
 
+-- met by the sheet that document 01 prints: it is sound
 pub worked-sound : Sound worked
 worked-sound = accepted-sound workedText reads-worked
 
--- a text, read and written back, has the same bytes
+-- "An accepted sheet read and written back has the same bytes"
 pub read-write : (text : List ℕ) {t : Sheet} → readText text ≡ accepted t → writeSheet t ≡ text
 read-write text {t} e = written text t e .0
 
 worked-written : writeSheet worked ≡ workedText
 worked-written = read-write workedText reads-worked
 
--- tables, written and read back, are the same tables
+-- "sound tables written and read back are the same tables"
 pub write-read : {t : Sheet} → Sound t → readText (writeSheet t) ≡ accepted t
 unfolding readText readLines readBy writeSheet
 write-read {t} p =
@@ -90,7 +91,7 @@ one-text text₁ text₂ e₁ e₂ = sym (read-write text₁ e₁) ∙ read-writ
 worked-text : workedText ≡ writeSheet worked
 worked-text = one-text workedText (writeSheet worked) reads-worked worked-read
 
--- and sound contents of one text
+-- "each content has one text": two sound sheets with one text are one sheet
 pub one-content : {t₁ t₂ : Sheet} → Sound t₁ → Sound t₂ → writeSheet t₁ ≡ writeSheet t₂ → t₁ ≡ t₂
 one-content p₁ p₂ e = let h : accepted _ ≡ accepted _ = sym (write-read p₁) ∙ ap readText e ∙ write-read p₂ in cc
 

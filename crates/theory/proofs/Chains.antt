@@ -17,6 +17,7 @@ pub data Goes (ch : ℕ → ℕ → Type 0) (x y : ℕ) (l : List ℕ) : Type 0 
 
 module _ {ch : ℕ → ℕ → Type 0} where
   -- ---- chains and flow
+  -- "a finite chain .. leads there": from the first entity of a chain data gets to its last
   pub chain-flow : {x y : ℕ} {l : List ℕ} → Chain ch x y l → Flow ch x y
   chain-flow alone = here
   chain-flow (link c t) = flow-cons c (chain-flow t)
@@ -26,6 +27,7 @@ module _ {ch : ℕ → ℕ → Type 0} where
   chain-snoc alone c = link c alone
   chain-snoc (link d t) c = link d (chain-snoc t c)
 
+  -- "Data can get from x to y exactly if a finite chain .. leads there": where x flows to y there is a chain, whatever the channels
   pub flow-chain : {x y : ℕ} → Flow ch x y → (l : List ℕ) × Chain ch x y l
   flow-chain {x} here = (x ∷ [], alone)
   flow-chain (step f c) = let r = flow-chain f in (_, chain-snoc (r .1) c)
@@ -54,6 +56,7 @@ module _ {ch : ℕ → ℕ → Type 0} where
   only-alone alone e = equal ended
   only-alone (link c t) e = absurd (omega (arith, chain-long t))
 
+  -- "From x to x it is x alone": that is the shortest chain, and the smallest of the shortest, whatever the channels
   pub best-alone : {y : ℕ} → Best ch y y (y ∷ [])
   best-alone = record { chain = alone; shortest = λ m c. chain-long c; smallest = λ m c e. only-alone c e }
 
@@ -65,6 +68,7 @@ not-after-both (less h) (equal q) = absurd (omega arith)
 not-after-both (equal p) (less g) = absurd (omega arith)
 not-after-both (equal {a = a} p) (equal q) = ap (λ (t : List ℕ). a ∷ t) (not-after-both p q)
 
+-- "shortest, and among the shortest the smallest": from x to y there is at most one such chain, whatever the channels
 pub one-best : {ch : ℕ → ℕ → Type 0} {x y : ℕ} {l m : List ℕ} → Best ch x y l → Best ch x y m → l ≡ m
 one-best {l = l} {m = m} p q =
     let e : length m ≡ length l = omega (arith, p .shortest m (q .chain), q .shortest l (p .chain)) in
@@ -78,6 +82,7 @@ module _ {ch : ℕ → ℕ → Type 0} {y : ℕ} where
   avoids {x} {a} (link {l = l} c t) short =
       further (λ e. omega (arith, short (a ∷ l) (subst (λ (k : ℕ). Chain ch k y (a ∷ l)) e (link c t)))) (avoids t (λ m u. omega (arith, short m u)))
 
+  -- "The chain from x to y is a list of entities, .. shortest": a chain that is no longer than any other has no entity twice
   pub shortest-distinct : {x : ℕ} {l : List ℕ} → Chain ch x y l → ((m : List ℕ) → Chain ch x y m → length l ≤ length m) → Distinct l
   shortest-distinct alone short = more nowhere empty
   shortest-distinct (link c t) short =

@@ -12,6 +12,7 @@ use Rattle.theory.specs.Laws.{Agree, Contains}
 use Rattle.theory.proofs.Flows.{flow-more, flow-then}
 use Rattle.theory.proofs.Orders.{agree-turned}
 
+-- "the effect on each entity is a byte": there is at most one, between any two relations
 pub one-effect : {n : ℕ} {R R′ : ℕ → ℕ → Type 0} {x a b : ℕ} → Effect n R R′ x a → Effect n R R′ x b → a ≡ b
 one-effect p q = p .summed ∙ rw (one-mark (p .gained) (q .gained), one-mark (p .lost) (q .lost)) (sym (q .summed))
 
@@ -64,9 +65,11 @@ module _ {n : ℕ} {R R′ : ℕ → ℕ → Type 0} {x e : ℕ} (effect : Effec
 
 -- ---- channels that only come, or only go
 module _ {n x e : ℕ} {ch ch′ : ℕ → ℕ → Type 0} (hx : x < n) (change : Effect n (Flow ch) (Flow ch′) x e) where
+  -- "a change that only adds .. never gives 2 or 3": where all channels stay, the effect on an entity below n is 0 or 1
   pub adding-loses-nothing : Contains ch′ ch → (e ≡ 0) ⊎ (e ≡ 1)
   adding-loses-nothing more = only-gained change (λ g. g .lacked (flow-more more _ _ (g .has)))
 
+  -- "one that only takes away never gives 1 or 3": where no channel is new, the effect on an entity below n is 0 or 2
   pub taking-gains-nothing : Contains ch ch′ → (e ≡ 0) ⊎ (e ≡ 2)
   taking-gains-nothing fewer = only-lost change (λ g. g .lacked (flow-more fewer _ _ (g .has)))
 

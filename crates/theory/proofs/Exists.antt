@@ -131,10 +131,11 @@ module _ {ch : ℕ → ℕ → Type 0} {n : ℕ} (inside : Inside n ch) (decide 
   best-of-chain [] c = absurd (omega (arith, chain-long c))
   best-of-chain {x} (a ∷ m) c = best-by (length m) c refl (first-below (λ k. Reaches k x) (λ k. reaches-decided (level k x)) (suc (length m)))
 
-  -- a chain exists exactly if x flows to y
+  -- "the shortest is shown": where x flows to y, there is such a chain, if all channels lie below n and each is decided
   pub best-exists : {x : ℕ} → Flow ch x y → (l : List ℕ) × Best ch x y l
   best-exists f = let r = flow-chain f in best-of-chain (r .0) (r .1)
 
+  -- "and the shortest is shown": there is such a chain only where x flows to y
   pub best-flow : {x : ℕ} {l : List ℕ} → Best ch x y l → Flow ch x y
   best-flow b = chain-flow (b .chain)
 

@@ -4,6 +4,7 @@ use Rattle.theory.specs.Flow.{Flow, here, step}
 use Rattle.theory.specs.Laws.{Contains, Reflexive, Transitive, Inside}
 
 module _ {ch : ℕ → ℕ → Type 0} where
+  -- "the reflexive, transitive closure of channel"; "the chain without steps counts": each entity flows to itself
   pub flow-reflexive : Reflexive (Flow ch)
   flow-reflexive x = here
 
@@ -11,9 +12,11 @@ module _ {ch : ℕ → ℕ → Type 0} where
   flow-then f here = f
   flow-then f (step g c) = step (flow-then f g) c
 
+  -- "the reflexive, transitive closure of channel": where x flows to y, and y to z, x flows to z, by however many channels
   pub flow-transitive : Transitive (Flow ch)
   flow-transitive x y z f g = flow-then f g
 
+  -- "the reflexive, transitive closure of channel": each channel is a flow
   pub flow-has : Contains (Flow ch) ch
   flow-has a b c = step here c
 

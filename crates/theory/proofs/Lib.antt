@@ -1,4 +1,5 @@
 -- Laws of flow, order and chains, and a small network at which their premises are met.
+pub mod ANetwork
 pub mod Flows
 pub mod Orders
 pub mod Distinct

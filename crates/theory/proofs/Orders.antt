@@ -7,17 +7,20 @@ use Rattle.answers.specs.Rows.{one, count}
 use Rattle.answers.proofs.Marks.{one-mark, mark-agrees, one-row}
 use Rattle.theory.specs.Flow.{Flow}
 use Rattle.theory.specs.Order.{InLabel, Label, LabelSize, Included, Equivalent, ClassBelow, ClassName, Order, equal, below, above, incomparable, Compares, both, only-there, only-back, neither, Greatest}
-use Rattle.theory.specs.Laws.{Theorem1, Agree, EqualAnswers, Reflexive, Transitive}
+use Rattle.theory.specs.Laws.{Theorem1, Agree, EqualAnswers, Reflexive, Transitive, OneClass}
 use Rattle.theory.proofs.Flows.{flow-reflexive, flow-transitive, flow-closed, flow-closed-back}
 
 -- ---- any reflexive and transitive relation
 module _ {R : ℕ → ℕ → Type 0} (same : Reflexive R) (through : Transitive R) where
+  -- "Two entities are equivalent if each flows to the other": each is so to itself
   pub equivalent-self : (x : ℕ) → Equivalent R x x
   equivalent-self x = record { there = same x; back = same x }
 
+  -- "Two entities are equivalent if each flows to the other": where x is so to y, y is to x
   pub equivalent-turned : {x y : ℕ} → Equivalent R x y → Equivalent R y x
   equivalent-turned e = record { there = e .back; back = e .there }
 
+  -- "Two entities are equivalent if each flows to the other": where x is so to y, and y to z, x is to z
   pub equivalent-then : {x y z : ℕ} → Equivalent R x y → Equivalent R y z → Equivalent R x z
   equivalent-then e f = record { there = through _ _ _ (e .there) (f .there); back = through _ _ _ (f .back) (e .back) }
 
@@ -46,9 +49,11 @@ module _ {R : ℕ → ℕ → Type 0} (same : Reflexive R) (through : Transitive
   pub class-antisymmetric : {n x y : ℕ} → x < n → y < n → ClassBelow n R x y → ClassBelow n R y x → Equivalent R x y
   class-antisymmetric hx hy c d = record { there = flow-of-class hx hy c; back = flow-of-class hy hx d }
 
+  -- "the partial-order theory in source document 000": the class of each entity below n is below or equal to itself
   pub class-reflexive : {n x : ℕ} → x < n → ClassBelow n R x x
   class-reflexive hx = class-of-flow hx hx (same _)
 
+  -- "the partial-order theory in source document 000": where x's class is below or equal to y's, and y's to z's, x's is to z's
   pub class-transitive : {n x y z : ℕ} → x < n → y < n → z < n → ClassBelow n R x y → ClassBelow n R y z → ClassBelow n R x z
   class-transitive hx hy hz c d = class-of-flow hx hz (through _ _ _ (flow-of-class hx hy c) (flow-of-class hy hz d))
 
@@ -61,7 +66,12 @@ module _ {R : ℕ → ℕ → Type 0} (same : Reflexive R) (through : Transitive
   pub named-class : {n x y a : ℕ} → ClassName n R x a → ClassName n R y a → Equivalent R x y
   named-class p q = equivalent-then (p .member) (equivalent-turned (q .member))
 
+  -- "A class is named by its smallest member": two entities have one name exactly if each flows to the other
+  pub one-name-one-class : (n x y a b : ℕ) → OneClass n R x y a b
+  one-name-one-class n x y a b = record { one-name = class-named-once; one-class = λ e p q. named-class p (rw e q) }
+
 -- ---- theorem 1 of document 000, for any channel relation
+-- document 000, theorem 1: flow, order of classes and inclusion of labels say the same, for any channel relation
 pub theorem-1 : (n : ℕ) (ch : ℕ → ℕ → Type 0) (x y : ℕ) → x < n → y < n → Theorem1 n ch x y
 theorem-1 n ch x y hx hy = record {
   to-class = class-of-flow flow-reflexive flow-transitive hx hy;
@@ -70,6 +80,7 @@ theorem-1 n ch x y hx hy = record {
 }
 
 -- ---- one answer to each question, for any relation
+-- "The label of x is the set": there is one row of bytes for it
 pub one-label : (n : ℕ) (R : ℕ → ℕ → Type 0) (x : ℕ) {k l : List ℕ} → Label n R x k → Label n R x l → k ≡ l
 one-label n R x = one-row (λ _ _ _. one-mark)
 
@@ -77,9 +88,11 @@ module _ {n : ℕ} {R : ℕ → ℕ → Type 0} {x : ℕ} where
   pub one-size : {k l : ℕ} → LabelSize n R x k → LabelSize n R x l → k ≡ l
   one-size p q = p .counted ∙ ap (count 1) (one-label n R x (p .label) (q .label)) ∙ sym (q .counted)
 
+  -- "A class is named by its smallest member": x's class has at most one name
   pub one-class : {a b : ℕ} → ClassName n R x a → ClassName n R x b → a ≡ b
   one-class p q = le-antisymm (p .smallest _ (q .below) (q .member)) (q .smallest _ (p .below) (p .member))
 
+  -- "flags (1 greatest secrecy, 2 greatest integrity, summed)": x has at most one such sum
   pub one-greatest : {a b : ℕ} → Greatest n R x a → Greatest n R x b → a ≡ b
   one-greatest p q = p .summed ∙ rw (one-mark (p .secret) (q .secret), one-mark (p .integral) (q .integral)) (sym (q .summed))
 
@@ -129,18 +142,18 @@ module _ {n : ℕ} {R R′ : ℕ → ℕ → Type 0} (g : Agree n R R′) {x : �
   label-agrees row l =
       record { size = l .size; bytes = λ y h. mark-agrees (g .there y x h hx) (g .back y x h hx) (l .bytes y h) }
 
-  same-class : {z : ℕ} → z < n → Equivalent R x z → Equivalent R′ x z
-  same-class hz e = record { there = g .there _ _ hx hz (e .there); back = g .there _ _ hz hx (e .back) }
+  equivalent-agrees : {z : ℕ} → z < n → Equivalent R x z → Equivalent R′ x z
+  equivalent-agrees hz e = record { there = g .there _ _ hx hz (e .there); back = g .there _ _ hz hx (e .back) }
 
-  same-class-back : {z : ℕ} → z < n → Equivalent R′ x z → Equivalent R x z
-  same-class-back hz e = record { there = g .back _ _ hx hz (e .there); back = g .back _ _ hz hx (e .back) }
+  equivalent-agrees-back : {z : ℕ} → z < n → Equivalent R′ x z → Equivalent R x z
+  equivalent-agrees-back hz e = record { there = g .back _ _ hx hz (e .there); back = g .back _ _ hz hx (e .back) }
 
   class-agrees : (a : ℕ) → ClassName n R x a → ClassName n R′ x a
   class-agrees a c =
       record {
         below = c .below;
-        member = same-class (c .below) (c .member);
-        smallest = λ z hz e. c .smallest z hz (same-class-back hz e);
+        member = equivalent-agrees (c .below) (c .member);
+        smallest = λ z hz e. c .smallest z hz (equivalent-agrees-back hz e);
       }
 
   order-agrees : {y : ℕ} → y < n → {o : Order} → Compares R x y o → Compares R′ x y o
@@ -159,6 +172,7 @@ module _ {n : ℕ} {R R′ : ℕ → ℕ → Type 0} (g : Agree n R R′) {x : �
         summed = m .summed;
       }
 
+  -- "Questions .. are defined by its bytes alone": where relations agree below n, so do label, size, class name, order and flags of x and y
   pub equal-answers : {y : ℕ} → y < n → EqualAnswers n R R′ x y
   equal-answers hy =
       record {

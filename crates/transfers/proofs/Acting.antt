@@ -50,6 +50,7 @@ module _ {c : Counts} {t : Transfer} where
   act-is-one (barred v h) (outside no-way) = absurd (no-way _ _ v)
   act-is-one (barred v h) (barred w k) = refl
 
+-- "If the channel exists, .. the byte is 10; if there is no channel, 16": a transfer comes to at most one act, whatever the channels
 pub one-act : {c : Counts} {ch : ℕ → ℕ → Type 0} → OneAct (Comes c ch)
 one-act t act act′ = act-is-one
 
@@ -59,6 +60,7 @@ pub record Ends (c : Counts) (a b : ℕ) : Type 0 where
   pub source : a < entities c
   pub target : b < entities c
 
+-- "1 moves from object to subject, 2 the other way": the ends of a transfer's way are both below N
 pub way-ends : {c : Counts} {t : Transfer} {a b : ℕ} → Way c t a b → Ends c a b
 way-ends (toSubject s o m) = record { source = omega arith; target = omega arith }
 way-ends (toObject s o m) = record { source = omega arith; target = omega arith }
@@ -78,7 +80,7 @@ module _ {c : Counts} {ch : ℕ → ℕ → Type 0} {buffer channels : List ℕ}
   pub by-table : {ts : List Transfer} {acts : List Act} → AllCome (Comes c (Bytes (entities c) channels)) ts acts → AllCome (Comes c ch) ts acts
   by-table = let same = bytes-agree f in all-agree (record { there = same .back; back = same .there })
 
--- ---- demand 3's first half, of these transfers: "an entity whose label lacks x ends with equal marks"
+-- demand 3's first half, of transfers by subject, object and mode: "an entity whose label lacks x ends with equal marks"
 pub transfers-lack : {n x y : ℕ} {c : Counts} {ch : ℕ → ℕ → Type 0} {marks marks′ : List ℕ} {ts : List Transfer} {acts : List Act} → Inside n ch → y < n →
     Starts n x marks marks′ → n ≤ length marks → AllCome (Comes c ch) ts acts → (InLabel (Flow ch) y x → ⊥) → getD (after acts marks) y 0 ≡ getD (after acts marks′) y 0
 transfers-lack inside below s room come lacks = label-lacks inside below s room comes-along come lacks

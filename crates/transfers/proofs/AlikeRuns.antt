@@ -53,7 +53,7 @@ module _ {n : ℕ} {ch : ℕ → ℕ → Type 0} (inside : Inside n ch) {T : Typ
         same-marks = λ y below lacks. label-lacks inside below s room along (p .come) lacks;
       }
 
-  -- whatever is refused
+  -- "Both rehearsals give equal answers and counts", refused or not, for any channels and any kind of transfer
   pub outcomes-alike : {refusals refusals′ : List Refusal} → refusals ≡ refusals′ → (firstRefusal refusals ≡ 0 → n ≤ length marks) →
       Outcome refusals (notRehearsed marks verdicts t) (Rehearses comes ts marks verdicts t) r →
       Outcome refusals′ (notRehearsed marks′ verdicts′ t) (Rehearses comes ts marks′ verdicts′ t) r′ → Alike n ch x (length ts) r r′

@@ -12,6 +12,7 @@ module _ {T : Type 0} {comes : T → Act → Type 0} (one : OneAct comes) where
   one-list none none = refl
   one-list (next p ps) (next q qs) = ap₂ _∷_ (one _ _ _ p q) (one-list ps qs)
 
+  -- "which the step rule determines": two unrefused results of one list on the same input are equal, where each transfer comes to one act
   pub one-rehearsal : {ts : List T} {marks verdicts : List ℕ} {t : Tally} {r r′ : Rehearsed} →
       Rehearses comes ts marks verdicts t r → Rehearses comes ts marks verdicts t r′ → r ≡ r′
   one-rehearsal {marks = marks} {verdicts} {t} p q =

@@ -2,6 +2,7 @@
 -- transfers there.
 use Prim.Native.Nat.{ℕ, _≤_, _<_}
 use mathlib.Core.Path.{_≡_, refl}
+use mathlib.Core.Bool.{true, false}
 use mathlib.Core.List.{List, [], _∷_}
 use native.Mathlib.Omega.{arith}
 use lib.Dec.{lit<}
@@ -13,7 +14,7 @@ use Rattle.transfers.specs.declared.Act.the-variants.{Moves, OutOfRange,
 use Rattle.transfers.specs.declared.Transfer.{Transfer}
 use Rattle.transfers.specs.Acts.{verdictByte, verdictBytes, plus, acted, after, AllCome, none, next}
 use Rattle.transfers.specs.Transfers.{transfer, flatTransfers, Way, toSubject, toObject, Comes, moves, outside, barred, flatBytes}
-use Rattle.transfers.specs.Rehearse.{tally, newTally, raised, notRehearsed, rehearsed, Rehearses, tallyRefusals}
+use Rattle.transfers.specs.Rehearse.{tally, newTally, raised, rehearsalShort, notRehearsed, rehearsed, Rehearses, tallyRefusals}
 use Rattle.transfers.specs.Demand3.{transferOf, chainTransfers}
 use Rattle.transfers.proofs.Shares.{share}
 
@@ -136,12 +137,16 @@ record Tallies : Type 0 where
   applied-full : firstRefusal (tallyRefusals (tally 4294963200 0 0)) ≡ 17
   outside-full : firstRefusal (tallyRefusals (tally 0 4294963200 0)) ≡ 17
   barred-full : firstRefusal (tallyRefusals (tally 0 0 4294963200)) ≡ 17
+  -- "marks 112 numbers of 32 bits, verdict bytes 4,096"
+  enough-lent : rehearsalShort 112 4096 ≡ false
+  marks-short : rehearsalShort 111 4096 ≡ true
+  verdicts-short : rehearsalShort 112 4095 ≡ true
   -- a refusal by 15
   untouched : notRehearsed (7 ∷ []) (9 ∷ []) (tally 1 2 3) 15
       ≡ record { answer = 15; applied = 0; marks = 7 ∷ []; verdicts = 9 ∷ []; tally = tally 1 2 3 }
 
 tallies : Tallies
-unfolding raised count tallyRefusals firstRefusal
+unfolding raised count tallyRefusals firstRefusal rehearsalShort
 tallies =
     record {
       from-nothing = refl;
@@ -149,5 +154,8 @@ tallies =
       applied-full = refl;
       outside-full = refl;
       barred-full = refl;
+      enough-lent = refl;
+      marks-short = refl;
+      verdicts-short = refl;
       untouched = refl;
     }

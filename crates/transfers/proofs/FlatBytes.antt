@@ -7,6 +7,7 @@ use lib.ListN.{length, getD}
 use Rattle.transfers.specs.declared.Transfer.{Transfer}
 use Rattle.transfers.specs.Transfers.{transfer, flatTransfers, flatBytes}
 
+-- "Transfers come as flat bytes, three each": read from the flat bytes of records, they are these records
 pub flat-and-back : (ts : List Transfer) → flatTransfers (flatBytes ts) ≡ ts
 unfolding flatBytes flatTransfers
 flat-and-back [] = refl

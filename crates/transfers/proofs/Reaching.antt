@@ -36,6 +36,7 @@ module _ {T : Type 0} {comes : T → Act → Type 0} (one : OneAct comes) {ts : 
           all-zero = rw (← size) (list-verdicts come verdicts) ∙ chain-verdicts chain;
         }
 
+    -- "an accepted rehearsal of the shown chain's transfers ends .. with different marks at y", all applied, if they come to its moves
     pub chain-reached : {n : ℕ} {marks marks′ verdicts verdicts′ : List ℕ} {t : Tally} {r r′ : Rehearsed} → Inside n ch → y < n →
         Starts n x marks marks′ → n ≤ length marks → Best ch x y l →
         Rehearses comes ts marks verdicts t r → Rehearses comes ts marks′ verdicts′ t r′ → Reached (length l - 1) y r r′

@@ -50,6 +50,7 @@ weighed-moved n a b acts marks y from to room =
 
 -- The final mark of y, for acts whose moves go between entities below n.
 module _ {n : ℕ} {R : ℕ → ℕ → Type 0} (inside : Inside n R) {y : ℕ} (below : y < n) where
+  -- "one after the other": y's final mark is the sum of all starting marks, each times its share in y, modulo 4,294,967,296
   pub final-mark : {acts : List Act} (marks : List ℕ) → AllMove R acts → n ≤ length marks → Marks32 marks →
       getD (after acts marks) y 0 ≡ weighed n acts marks y % 2 ^ 32
   unfolding after acted weighed share
@@ -121,6 +122,7 @@ module _ {n : ℕ} {ch : ℕ → ℕ → Type 0} (inside : Inside n ch) {x : ℕ
           agree = λ z inner lacks. s .apart .agree z inner (λ e. lacks (subst (Flow ch x) (sym e) here));
         }
 
+    -- "an entity whose label lacks x ends with equal marks": y, after one list of transfers of a kind that moves along channels only
     pub label-lacks : {T : Type 0} {comes : T → Act → Type 0} {ts : List T} {acts : List Act} → Along comes ch → AllCome comes ts acts →
         (InLabel (Flow ch) y x → ⊥) → getD (after acts marks) y 0 ≡ getD (after acts marks′) y 0
     label-lacks along come lacks = runs-agree (come-move along come) at-start .agree y below lacks

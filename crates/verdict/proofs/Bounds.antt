@@ -47,6 +47,7 @@ module _ (l : Lent) (count : ℕ) (separations chain : List ℕ) where
   pub refusal-byte : firstRefusal (judgeRefusals l count separations chain) < 256
   refusal-byte = lit< (parts (ltb (firstRefusal (judgeRefusals l count separations chain)) 256) _ refusal-plain .0)
 
+  -- "14 | a separation is broken (a finding, no refusal)": no refusal of `judge` has the number 14
   pub refusal-not-14 : firstRefusal (judgeRefusals l count separations chain) ≡ 14 → ⊥
   refusal-not-14 e = absurd (rw e at refusal-plain)
 

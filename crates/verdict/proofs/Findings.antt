@@ -7,7 +7,7 @@ use native.Mathlib.Decide.{ℕ-discrete}
 use native.Mathlib.Omega.{arith}
 use lib.ListN.{length, take}
 use Rattle.answers.specs.declared.Told.{Told}
-use Rattle.answers.specs.Call.{firstRefusal}
+use Rattle.answers.specs.Call.{firstRefusal, told}
 use Rattle.answers.specs.Rows.{at, Mark}
 use Rattle.tables.specs.Sheet.{Lent, Sheet, sheetIn, sheetOf, entities, from, to}
 use Rattle.answers.proofs.Calls.{answered}
@@ -17,13 +17,13 @@ use Rattle.theory.specs.Chain.{Best}
 use Rattle.rows.specs.Written.{FlowTable}
 use Rattle.access.specs.Channel.{Channel}
 use Rattle.separations.specs.declared.Judged.{Judged}
-use Rattle.separations.specs.Judgement.{Broken, AllHold, broken, Finding}
+use Rattle.separations.specs.Judgement.{Broken, AllHold, judged, broken, Finding}
 use Rattle.verdict.specs.Chain.{chainRefusals, Shows}
 use Rattle.verdict.specs.Judge.{judgeRefusals, Judges}
 use Rattle.separations.proofs.Verdicts.{one-first}
 use Rattle.verdict.proofs.Bounds.{refusal-not-14}
 use Rattle.verdict.proofs.Judging.{judgeable}
-use Rattle.separations.proofs.Findings.{told-finding, told-holding, tells-broken, tells-holding, chain-in-front, told-chain, tells-chain, table-marks}
+use Rattle.separations.proofs.Findings.{told-finding, told-holding, tells-broken, tells-holding, chain-in-front, told-chain, tells-chain, tells-missing, table-marks}
 
 module _ (l : Lent) (count : ℕ) (separations before : List ℕ) (j : Judged) (after : List ℕ) (call : Judges l count separations before (j, after)) where
   -- the sheet that is judged
@@ -55,14 +55,17 @@ module _ (l : Lent) (count : ℕ) (separations before : List ℕ) (j : Judged) (
       × (length (take (j .count) after) ≡ j .count)
   finding-chain q = let f = finding q in chain-in-front before (f .best) (f .counted) (f .written)
 
-  pub holding : j .answer ≡ 0 → AllHold (Channel judgedSheet) count separations × (after ≡ before)
+  -- where `judge` answers 0 none is broken, "position and chain count where all hold" are 0, and "the chain buffer is then unaltered"
+  pub holding : j .answer ≡ 0 → AllHold (Channel judgedSheet) count separations × (j ≡ judged 0 0 0) × (after ≡ before)
   holding q = told-holding (call .done (accepted-0 q)) q
 
   -- and the other way round, where nothing is refused
   module _ (accepted : firstRefusal (judgeRefusals l count separations before) ≡ 0) where
+    -- "The first broken one is answered by 14": unless `judge` refuses, it answers 14 where one of the separations is broken
     pub broken-answered : (i : ℕ) → i < count → Broken (Channel judgedSheet) separations i → j .answer ≡ 14
     broken-answered = tells-broken (call .done accepted)
 
+    -- "one is broken exactly if such a chain exists": unless `judge` refuses, it answers 0 where none of them is broken
     pub holding-answered : AllHold (Channel judgedSheet) count separations → j .answer ≡ 0
     holding-answered = tells-holding (call .done accepted)
 
@@ -75,15 +78,18 @@ module _ (l : Lent) (count : ℕ) (separations before : List ℕ) (j : Judged) (
     unfolding sheetOf
     sheet-marks accepted = table-marks f count separations (judgeable l count separations before accepted .listed)
 
+    -- "The first broken separation is named": where `judge` answers 14, that one's byte in the sheet's flow table is 1, and none's before it
     pub finding-in-table : j .answer ≡ 14 → (byteOf (j .position) ≡ 1) × ((i : ℕ) → i < j .position → byteOf i ≡ 1 → ⊥)
     finding-in-table q =
         let p = finding q .first in
         let m = sheet-marks (accepted-14 q) in
         (mark-of (m (j .position) (p .below)) (p .broken), λ i h e. p .before i h (marked-yes (m i (omega (arith, p .below))) e))
 
+    -- "one is broken exactly if such a chain exists": where `judge` answers 0, no separation's byte in the sheet's flow table is 1
     pub holding-in-table : j .answer ≡ 0 → (i : ℕ) → i < count → byteOf i ≡ 1 → ⊥
     holding-in-table q i h e = holding q .0 i h (marked-yes (sheet-marks (accepted-0 q) i h) e)
 
+    -- "The first broken separation is named": unless `judge` refuses, the first whose byte in that table is 1 is named, with 14
     pub table-answered : firstRefusal (judgeRefusals l count separations before) ≡ 0 → (i : ℕ) → i < count → byteOf i ≡ 1 →
         ((k : ℕ) → k < i → byteOf k ≡ 1 → ⊥) → (j .answer ≡ 14) × (j .position ≡ i)
     table-answered accepted i h e before-it =
@@ -94,8 +100,14 @@ module _ (l : Lent) (count : ℕ) (separations before : List ℕ) (j : Judged) (
 
 -- ---- `chain`: what an answer of 0 tells, and where it comes
 module _ (l : Lent) (x y : ℕ) (before : List ℕ) (t : Told) (after : List ℕ) (call : Shows l x y before (t, after)) where
+  -- "shortest, and among the shortest the smallest": where `chain` answers 0, the first `value` bytes of the buffer are this chain
   pub shown-chain : t .answer ≡ 0 → Best (Channel (sheetIn l)) x y (take (t .value) after) × (length (take (t .value) after) ≡ t .value)
   shown-chain q = told-chain (call .done (answered (λ r. r .0 .answer) (λ _. refl) call q)) q
 
+  -- unless `chain` refuses, it answers 0 where x flows to y
   pub flow-answered : firstRefusal (chainRefusals l x y before) ≡ 0 → Flow (Channel (sheetIn l)) x y → t .answer ≡ 0
   flow-answered accepted = tells-chain (call .done accepted)
+
+  -- "13 | no chain": unless `chain` refuses, where x does not flow to y; nothing is told, and the buffer is unaltered
+  pub no-flow-answered : firstRefusal (chainRefusals l x y before) ≡ 0 → (Flow (Channel (sheetIn l)) x y → ⊥) → (t ≡ told 13 0) × (after ≡ before)
+  no-flow-answered accepted = tells-missing (call .done accepted)

@@ -7,6 +7,7 @@ use mathlib.Core.List.{List, [], _∷_}
 use native.Mathlib.Omega.{arith}
 use lib.Dec.{lit<, lit≤}
 use lib.ListN.{replicate}
+use Rattle.answers.specs.declared.Told.{Told}
 use Rattle.answers.specs.Call.{firstRefusal, _then_, eachBelow, told}
 use Rattle.answers.specs.Rows.{at, Mark, one, none, anyBelow, over}
 use Rattle.tables.specs.Sheet.{Lent, lent, counts, sheetOf, sheetIn, from, to}
@@ -25,7 +26,7 @@ use Rattle.verdict.specs.Chain.{chainRefusals, Shows}
 use Rattle.verdict.specs.Judge.{judgeRefusals, Judges}
 use Rattle.verdict.proofs.Bounds.{Small, judged-small}
 use Rattle.verdict.proofs.Showing.{showable, chain-pass}
-use Rattle.verdict.proofs.Findings.{finding, finding-chain, holding, broken-answered, holding-answered, finding-in-table, holding-in-table, table-answered, shown-chain, flow-answered}
+use Rattle.verdict.proofs.Findings.{finding, finding-chain, holding, broken-answered, holding-answered, finding-in-table, holding-in-table, table-answered, shown-chain, flow-answered, no-flow-answered}
 
 data Hop : ℕ → ℕ → Type 0 where
   hop : Hop 0 1
@@ -89,6 +90,7 @@ call =
     (record { below = lit< tt; broken = step here (channel-of 0 1 hop); before = λ j h. absurd (omega arith) })
     (best-agrees channel-of hop-of best) refl)
 
+-- met by this call: "answered by 14, its position from 0 and its chain", which are 0 and the two entities 0, 1
 found : Finding (Channel (sheetOf tables 1 separations)) 1 separations before (judged 14 0 2) (0 ∷ 1 ∷ replicate 110 9)
 found = finding tables 1 separations before _ _ call refl
 
@@ -120,9 +122,10 @@ filled buffer = record { table = 1 ∷ 1 ∷ 0 ∷ 1 ∷ []; marked = record { s
     byte (suc zero) (suc (suc y)) hx hy = absurd (omega arith)
     byte (suc (suc x)) y hx hy = absurd (omega arith)
 
-by-table : (judged 14 0 2 .answer ≡ 14) × (judged 14 0 2 .position ≡ 0)
+-- met by this table, whose byte of the separation from 0 to 1 is 1: whatever the call gives, it is 14 and position 0
+by-table : (j : Judged) (after : List ℕ) → Judges tables 1 separations before (j, after) → (j .answer ≡ 14) × (j .position ≡ 0)
 unfolding tables separations over
-by-table = table-answered tables 1 separations before _ _ call (filled []) accepted 0 (lit< tt) refl (λ k h. absurd (omega arith))
+by-table j after c = table-answered tables 1 separations before j after c (filled []) accepted 0 (lit< tt) refl (λ k h. absurd (omega arith))
 
 -- whatever the call gives, the byte of the separation that it names is 1
 found-in-table : (j : Judged) (after : List ℕ) → Judges tables 1 separations before (j, after) →
@@ -139,16 +142,26 @@ pub chain-call : Shows tables 0 1 before (told 0 2, 0 ∷ 1 ∷ replicate 110 9)
 unfolding before over
 chain-call = accept chain-accepted (shown (0 ∷ 1 ∷ []) (best-agrees channel-of hop-of best) refl)
 
+-- met by the chain that `chain` told from 0 to 1
 chain-shown : Best (Channel (sheetIn tables)) 0 1 (0 ∷ 1 ∷ [])
 chain-shown =
     let passes = chain-pass tables 0 1 before (showable tables 0 1 before chain-accepted) in
     shown-chain tables 0 1 before _ _ chain-call (flow-answered tables 0 1 before _ _ chain-call passes (step here (channel-of 0 1 hop))) .0
 
+-- ---- from 1 to 0 there is none
+back-accepted : firstRefusal (chainRefusals tables 1 0 before) ≡ 0
+unfolding firstRefusal _then_ anyBelow sheetRefusals sizeRefusals usedRefusals chainRefusals tables before
+back-accepted = refl
+
+-- whatever the call gives, it is 13, and nothing is altered
+no-chain-told : (t : Told) (after : List ℕ) → Shows tables 1 0 before (t, after) → (t ≡ told 13 0) × (after ≡ before)
+no-chain-told t after c = no-flow-answered tables 1 0 before t after c back-accepted (λ f. omega (arith, stays-1 f))
+
 -- ---- the separation from 1 to 0, which holds
-unfoldable turned : List ℕ
+unfoldable pub turned : List ℕ
 turned = 1 ∷ 0 ∷ replicate 126 9
 
-turned-accepted : firstRefusal (judgeRefusals tables 1 turned before) ≡ 0
+pub turned-accepted : firstRefusal (judgeRefusals tables 1 turned before) ≡ 0
 unfolding firstRefusal _then_ eachBelow anyBelow sheetRefusals sizeRefusals usedRefusals pairRefusals separationRefusals judgeRefusals tables turned before
 turned-accepted = refl
 
@@ -157,17 +170,19 @@ unfolding turned sheetOf
 turned-holds zero h f = omega (arith, stays-1 f)
 turned-holds (suc i) h f = omega arith
 
-turned-call : Judges tables 1 turned before (judged 0 0 0, before)
+pub turned-call : Judges tables 1 turned before (judged 0 0 0, before)
 turned-call = accept turned-accepted (hold turned-holds refl)
 
 -- whatever the call gives, its answer is 0
 holding-told : (j : Judged) (after : List ℕ) → Judges tables 1 turned before (j, after) → j .answer ≡ 0
 holding-told j after c = holding-answered tables 1 turned before j after c turned-accepted turned-holds
 
+-- met by this separation: `judge` answers 0, so 1 does not flow to 0
 held : Flow (Channel (sheetOf tables 1 turned)) 1 0 → ⊥
 unfolding turned
 held = holding tables 1 turned before _ _ turned-call (holding-told _ _ turned-call) .0 0 (lit< tt)
 
+-- met by this separation and the flow table above: `judge` answers 0, so its byte is not 1
 held-in-table : at (1 ∷ 1 ∷ 0 ∷ 1 ∷ []) 2 1 0 ≡ 1 → ⊥
 unfolding tables turned over
 held-in-table = holding-in-table tables 1 turned before _ _ turned-call (filled []) (holding-told _ _ turned-call) 0 (lit< tt)

@@ -20,7 +20,7 @@ use Rattle.separations.specs.Judgement.{judged, Judgement}
 use Rattle.verdict.specs.Judge.{judgeRefusals, Judges}
 use Rattle.verdict.specs.Inner.{Judgeable}
 use Rattle.verdict.proofs.Showing.{sheet-has, table-has}
-use Rattle.separations.proofs.Agreeing.{verdict-agrees}
+use Rattle.separations.proofs.Agreeing.{judgement-agrees}
 
 -- ---- what is refused
 module _ (l : Lent) (count : ℕ) (separations chain : List ℕ) where
@@ -63,7 +63,7 @@ pub of-sheet : (l : Lent) (count : ℕ) (separations scratch channels before : L
     Judgement (Channel (sheetOf l count separations)) count separations before result
 unfolding sheetOf
 of-sheet l count separations scratch channels before result f v =
-    verdict-agrees (sheet-has l scratch channels f) (table-has l scratch channels f) v
+    judgement-agrees (sheet-has l scratch channels f) (table-has l scratch channels f) v
 
 -- ---- the call
 module _ (l : Lent) (count : ℕ) (separations before : List ℕ) where
