@@ -120,6 +120,10 @@ def check_cell(check, tree, kind, cell, found):
     check.hold(len(names) <= MOST_NAMES, "a cell cites more than %d names: %s .." % (MOST_NAMES, cell[:60]))
     for name in names:
         function = isinstance(name, str)
+        if kind == "theorem" and not function and "." in name[1]:
+            crate, name, field = (name[0], *name[1].split("."))
+            check.hold((crate, field) in tree.theorems, "%s: %s: has no case %s" % (crate, name, field))
+            name = (crate, name)
         there = name in (tree.functions if function else known.get(kind, ()))
         check.hold(there, "%s: no such %s" % (name if function else "%s: %s" % name, "function" if function else kind))
         if kind == "theorem" and there and not function:

@@ -19,21 +19,25 @@ both false b e = absurd (false≢true e)
 
 -- ---- `can_choose`, return by return
 module _ (before after : List ℕ) (n choice x : ℕ) where
+  -- "a bad choice": it is none of 0 and 1
   pub bad-choice : 2 ≤ choice → false ≡ canChoose before after n choice x
   unfolding canChoose
   bad-choice c = rw (le-ltb choice 2 c)
 
   module _ (c : choice < 2) where
+    -- "a bad .. number": it is not below N
     pub bad-number : n ≤ x → false ≡ canChoose before after n choice x
     unfolding canChoose
     bad-number h = rw (lt-ltb choice 2 c, le-ltb x n h)
 
     module _ (h : x < n) where
+      -- "a bad .. count": N is above 112
       pub bad-count : mostEntities < n → false ≡ canChoose before after n choice x
       unfolding canChoose
       bad-count m = rw (lt-ltb choice 2 c, lt-ltb x n h, lt-leb n mostEntities m)
 
       module _ (m : n ≤ mostEntities) where
+        -- "a bad .. length": the before table is too short
         pub bad-length : length before < leastFlow → false ≡ canChoose before after n choice x
         unfolding canChoose
         bad-length b = rw (lt-ltb choice 2 c, lt-ltb x n h, le-leb n mostEntities m, lt-leb leastFlow (length before) b)
@@ -61,14 +65,17 @@ fitting before after n choice x e =
     record { end = omega (arith, mul-le-mul near small); in-before = leb-true _ _ (e₂ .1); in-after = leb-true _ _ (e₁ .1) }
 
 module _ (before after : RefT (List ℕ)) (n choice x : ℕ) {r : RefT (List ℕ)} where
+  -- "from either the before table or the after table, as chosen by a 0 or 1": for 0 the row is a part of the before table
   pub row-before : canChoose (now before) (now after) n choice x ≡ true → choice ≡ 0 → Part before (x * n) (x * n + n) r → ChosenRow before after n choice x r
   unfolding ChosenRow
   row-before e z p = rw (e, eq-eqb choice 0 z) p
 
+  -- and for 1 of the after table
   pub row-after : canChoose (now before) (now after) n choice x ≡ true → (choice ≡ 0 → ⊥) → Part after (x * n) (x * n + n) r → ChosenRow before after n choice x r
   unfolding ChosenRow
   row-after e z p = rw (e, ne-eqb choice 0 z) p
 
+  -- "gives the empty part at the start of the before table"
   pub row-none : canChoose (now before) (now after) n choice x ≡ false → Part before 0 0 r → ChosenRow before after n choice x r
   unfolding ChosenRow
   row-none e p = rw e p

@@ -13,7 +13,7 @@ use Rattle.theory.specs.Order.{below, Compares, only-there}
 use Rattle.tables.specs.FlowTable.{byteRefusals, flowSizeRefusals, flowRefusals, entityRefusals, pairAskedRefusals}
 use Rattle.questions.specs.declared.Compared.the-variants.{Below, Refused}
 use Rattle.questions.specs.Compare.{comparison}
-use Rattle.questions.specs.Questions.{askedRefusals, bothAskedRefusals}
+use Rattle.questions.specs.Questions.{askedRefusals, bothAskedRefusals, labelRefusals}
 
 -- four bytes, and what the buffer has behind them
 pub table : ℕ → ℕ → ℕ → ℕ → List ℕ
@@ -34,6 +34,8 @@ pub 0-below-1 : Compares (Bytes 2 (table 1 1 0 1)) 0 1 below
 -- 1, 5, 12, 10
 pub record FlowOrder : Type 0 where
   pub label-short : firstRefusal (flowRefusals true 113 []) ≡ 1
+  pub label-111 : firstRefusal (labelRefusals 2 (table 1 1 0 1) 0 (replicate 111 0)) ≡ 1
+  pub label-112 : firstRefusal (labelRefusals 2 (table 1 1 0 1) 0 (replicate 112 0)) ≡ 0
   pub table-short : firstRefusal (askedRefusals 113 [] 200) ≡ 1
   pub n-over : firstRefusal (askedRefusals 113 (table 2 2 2 2) 200) ≡ 5
   pub byte-2 : firstRefusal (askedRefusals 2 (table 1 2 0 1) 9) ≡ 12
@@ -47,6 +49,8 @@ unfolding firstRefusal _then_ anyBelow byteRefusals flowSizeRefusals flowRefusal
 flow-order =
     record {
       label-short = refl;
+      label-111 = refl;
+      label-112 = refl;
       table-short = refl;
       n-over = refl;
       byte-2 = refl;

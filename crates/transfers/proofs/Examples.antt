@@ -30,6 +30,7 @@ nothing-from-1 written e = omega arith
 nothing-from-1 read e = omega arith
 
 -- ---- acts and marks
+-- "the destination's mark becomes its old mark plus the source's mark modulo 4,294,967,296", one transfer after the other
 record Marking : Type 0 where
   wraps : after (Moves 0 2 ∷ []) (4294967295 ∷ 0 ∷ 2 ∷ []) ≡ 4294967295 ∷ 0 ∷ 1 ∷ []
   not-before : after (Moves 0 2 ∷ []) (2147483648 ∷ 0 ∷ 2147483647 ∷ []) ≡ 2147483648 ∷ 0 ∷ 4294967295 ∷ []
@@ -107,7 +108,7 @@ seven =
 all-come : AllCome (Comes few Hop) seven (Moves 0 2 ∷ OutOfRange ∷ NotPermitted ∷ Moves 2 1 ∷ OutOfRange ∷ OutOfRange ∷ OutOfRange ∷ [])
 all-come = next writes (next subject-outside (next no-channel (next reads (next object-outside (next mode-0 (next mode-3 none))))))
 
--- two applied, four outside, one barred; the buffer's last two bytes stay
+-- "The result gives the count applied": two are, four are outside, one is barred; the buffer's last two bytes stay
 seven-rehearsed : Rehearses (Comes few Hop) seven (7 ∷ 0 ∷ 0 ∷ []) (9 ∷ 9 ∷ 9 ∷ 9 ∷ 9 ∷ 9 ∷ 9 ∷ 8 ∷ 7 ∷ []) (tally 100 200 300) record {
   answer = 0;
   applied = 2;

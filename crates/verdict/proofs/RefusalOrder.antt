@@ -23,6 +23,7 @@ pairs l = l ++ replicate 128 9
 
 -- "1, 5, 11; .. then 10"
 record ChainOrder : Type 0 where
+  short-chain : firstRefusal (chainRefusals (tables 1 1) 1 1 (replicate 111 9)) ≡ 1
   one-before-five : firstRefusal (chainRefusals (tables 49 2) 9 9 []) ≡ 1
   five-before-eleven : firstRefusal (chainRefusals (tables 49 2) 200 200 chain) ≡ 5
   eleven-before-ten : firstRefusal (chainRefusals (tables 1 2) 2 2 chain) ≡ 11
@@ -33,11 +34,12 @@ record ChainOrder : Type 0 where
 chain-order : ChainOrder
 unfolding firstRefusal _then_ anyBelow sheetRefusals sizeRefusals usedRefusals chainRefusals tables chain
 chain-order =
-    record { one-before-five = refl; five-before-eleven = refl; eleven-before-ten = refl; ten-for-the-first = refl; ten-for-the-second = refl; nothing = refl }
+    record { short-chain = refl; one-before-five = refl; five-before-eleven = refl; eleven-before-ten = refl; ten-for-the-first = refl; ten-for-the-second = refl; nothing = refl }
 
 -- "1, 5, 11; then .. 8, and then the first faulty pair, 6 before 7"
 record JudgeOrder : Type 0 where
   one-before-five : firstRefusal (judgeRefusals (tables 49 2) 65 (pairs []) []) ≡ 1
+  short-chain : firstRefusal (judgeRefusals (tables 1 1) 0 (pairs []) (replicate 111 9)) ≡ 1
   short-list : firstRefusal (judgeRefusals (tables 49 2) 0 [] chain) ≡ 1
   five-before-eleven : firstRefusal (judgeRefusals (tables 49 2) 65 (pairs []) chain) ≡ 5
   eleven-before-eight : firstRefusal (judgeRefusals (tables 1 2) 65 (pairs []) chain) ≡ 11
@@ -51,6 +53,7 @@ unfolding firstRefusal _then_ eachBelow anyBelow sheetRefusals sizeRefusals used
 judge-order =
     record {
       one-before-five = refl;
+      short-chain = refl;
       short-list = refl;
       five-before-eleven = refl;
       eleven-before-eight = refl;
