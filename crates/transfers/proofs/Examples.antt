@@ -109,10 +109,10 @@ all-come : AllCome (Comes few Hop) seven (Moves 0 2 ∷ OutOfRange ∷ NotPermit
 all-come = next writes (next subject-outside (next no-channel (next reads (next object-outside (next mode-0 (next mode-3 none))))))
 
 -- "The result gives the count applied": two are, four are outside, one is barred; the buffer's last two bytes stay
-seven-rehearsed : Rehearses (Comes few Hop) seven (7 ∷ 0 ∷ 0 ∷ []) (9 ∷ 9 ∷ 9 ∷ 9 ∷ 9 ∷ 9 ∷ 9 ∷ 8 ∷ 7 ∷ []) (tally 100 200 300) record {
+seven-rehearsed : Rehearses (Comes few Hop) seven (7 ∷ 3 ∷ 0 ∷ []) (9 ∷ 9 ∷ 9 ∷ 9 ∷ 9 ∷ 9 ∷ 9 ∷ 8 ∷ 7 ∷ []) (tally 100 200 300) record {
   answer = 0;
   applied = 2;
-  marks = 7 ∷ 7 ∷ 7 ∷ [];
+  marks = 7 ∷ 10 ∷ 7 ∷ [];
   verdicts = 0 ∷ 10 ∷ 16 ∷ 0 ∷ 10 ∷ 10 ∷ 10 ∷ 8 ∷ 7 ∷ [];
   tally = tally 102 204 301;
 }
