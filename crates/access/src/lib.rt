@@ -1,1 +1,2 @@
 // What a sheet permits, and its channels: definitions and laws. No code.
+#![tactic(auto)]

@@ -1,4 +1,6 @@
 // What every call shares: how it answers.
+#![tactic(auto)]
+
 pub mod sizes;
 
 ghost use Rattle.std.specs.Prelude.{◌≡◌, ◌||◌, cond, ◌<◌, ◌≤◌, eqb, length};

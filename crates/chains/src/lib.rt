@@ -1,4 +1,6 @@
 // The chain from one entity to another, by any table of channels: distances, and a walk along them.
+#![tactic(auto)]
+
 ghost use Rattle.std.specs.Prelude.{◌≡◌, ◌+◌, ◌*◌, ◌≤◌, ◌<◌, length, get_or, replicate};
 ghost use Rattle.answers.specs.Sizes.{most_entities};
 ghost use Rattle.answers.specs.Rows.{Bytes};

@@ -1,4 +1,6 @@
 // One change at a time: one assignment byte or one permission byte.
+#![tactic(auto)]
+
 ghost use Rattle.std.specs.Prelude.{◌≡◌, ◌+◌, ◌*◌, ◌<◌, length, set};
 ghost use Rattle.answers.specs.Call.{first_refusal};
 ghost use Rattle.tables.specs.Sheet.{lent};

@@ -1,4 +1,6 @@
 // The channel table of a sheet, by the list of each subject's roles.
+#![tactic(auto)]
+
 ghost use Rattle.std.specs.Prelude.{◌≡◌, ◌+◌, ◌*◌, ◌≤◌, ◌<◌, length};
 ghost use Rattle.answers.specs.Sizes.{most_roles, least_flow};
 ghost use Rattle.answers.specs.Rows.{Mark, Row, Filled};

@@ -1,4 +1,6 @@
 // The check of a whole text.
+#![tactic(auto)]
+
 ghost use Rattle.std.specs.Prelude.{◌≡◌, true, ◌+◌, ◌<◌};
 ghost use Rattle.tables.specs.Sheet.{counts};
 ghost use Rattle.frames.specs.Check.{start, next as after, next_line};

@@ -1,4 +1,6 @@
 // Digits of lowercase hexadecimal, read and written, and lines of them.
+#![tactic(auto)]
+
 ghost use Rattle.std.specs.Prelude.{◌≡◌, true, [], ◌∷◌, ◌+◌, ◌*◌, ◌<◌, ◌≤◌, length};
 ghost use Rattle.std.proofs.lemmas.List.Edits.{sets};
 ghost use Rattle.digits.specs.Digit.{is_digit, digit_value, digit_byte, digit_pairs, to_digits};

@@ -1,4 +1,6 @@
 // What a change did to labels, and a row handed back.
+#![tactic(auto)]
+
 ghost use Rattle.std.specs.Prelude.{◌≡◌};
 ghost use Rattle.answers.specs.Call.{first_refusal};
 ghost use Rattle.answers.specs.Rows.{Mark, Bytes};

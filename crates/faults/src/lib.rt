@@ -1,4 +1,6 @@
 // The faults of a line. `frame_fault` reads as its rule does, from the last line to the first.
+#![tactic(auto)]
+
 ghost use Rattle.std.specs.Prelude.{◌≡◌, not, ◌+◌, ◌*◌, ◌≤◌, ◌<◌, leb, eqb};
 ghost use Rattle.answers.specs.Call.{first_refusal};
 ghost use Rattle.tables.specs.Sheet.{counts, entities};

@@ -1,4 +1,6 @@
 // The flow table of a sheet.
+#![tactic(auto)]
+
 ghost use Rattle.tables.specs.Sheet.{lent, sheet_in};
 ghost use Rattle.channels.specs.Inner.{Fillable};
 ghost use Rattle.flow.specs.Fill.{FlowFilled, Fills};

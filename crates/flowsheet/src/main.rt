@@ -1,4 +1,6 @@
 // The program: reads a sheet from standard input and writes what is to be said of it.
+#![tactic(auto)]
+
 ghost use Rattle.std.specs.Prelude.{◌+◌, ◌≤◌, length};
 
 use answers::sizes;

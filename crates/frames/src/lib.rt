@@ -1,4 +1,6 @@
 // The frames of a sheet's text, and the check of a whole text: types, definitions and laws. No code.
+#![tactic(auto)]
+
 use tables::Counts;
 
 // One line of a sheet.

@@ -1,4 +1,6 @@
 // The first broken separation and its chain, by any table of channels.
+#![tactic(auto)]
+
 ghost use Rattle.std.specs.Prelude.{◌≡◌, ◌*◌, ◌≤◌, ◌<◌, length, get_or};
 ghost use Rattle.answers.specs.Sizes.{most_entities};
 ghost use Rattle.answers.specs.Rows.{Bytes};

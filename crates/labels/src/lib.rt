@@ -1,4 +1,6 @@
 // Label, class and flags of an entity, by the bytes of a flow table that was judged.
+#![tactic(auto)]
+
 ghost use Rattle.answers.specs.Call.{told};
 ghost use Rattle.answers.specs.Rows.{Mark, Bytes};
 ghost use Rattle.theory.specs.Order.{Equivalent, ClassName, GreatestSecrecy, GreatestIntegrity, Greatest};

@@ -1,4 +1,6 @@
 // Where the lines of a text lie.
+#![tactic(auto)]
+
 ghost use Rattle.std.specs.Prelude.{◌≡◌, ◌+◌, ◌<◌, ◌≤◌, length, drop};
 ghost use Rattle.digits.specs.Line.{line_start, line_end};
 ghost use Rattle.lines.specs.Inner.{EndsAt};

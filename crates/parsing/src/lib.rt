@@ -1,4 +1,6 @@
 // A line of a text: what it comes to, and where the next one begins.
+#![tactic(auto)]
+
 ghost use Rattle.std.specs.Prelude.{◌≡◌, true, ◌+◌, ◌<◌, length};
 ghost use Rattle.digits.specs.Digit.{digit_pairs, to_bytes};
 ghost use Rattle.digits.specs.Line.{line as asLine};

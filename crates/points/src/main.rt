@@ -1,5 +1,7 @@
 // The "Only run" points of document 01: a line each, what is tried and the answer number. The thirteen worked points are theorems, in
 // proofs/.
+#![tactic(auto)]
+
 ghost use Rattle.std.specs.Prelude.{◌*◌, ◌≤◌, length};
 
 use libc::STDOUT_FILENO;

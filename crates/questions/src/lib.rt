@@ -1,4 +1,6 @@
 // The questions on a flow table. Each judges the table first.
+#![tactic(auto)]
+
 ghost use Rattle.std.specs.Prelude.{◌≡◌};
 ghost use Rattle.answers.specs.Call.{first_refusal, ◌then◌};
 ghost use Rattle.tables.specs.FlowTable.{flow_refusals, entity_refusals};

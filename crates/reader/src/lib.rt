@@ -1,4 +1,6 @@
 // The second pass over the text of a sheet: what an accepted text says goes into the lent tables.
+#![tactic(auto)]
+
 ghost use Rattle.std.specs.Prelude.{◌≡◌, ◌++◌, ◌+◌, ◌*◌, ◌≤◌, ◌<◌, length, drop, set, replicate};
 ghost use Rattle.frames.specs.declared.Parsed.TheVariants.{Good};
 ghost use Rattle.frames.specs.declared.CheckedText.TheVariants.{Accepted};

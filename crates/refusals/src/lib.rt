@@ -1,4 +1,6 @@
 // The refusals that calls on tables share. Each function reads as its rule does, from the last line to the first.
+#![tactic(auto)]
+
 ghost use Rattle.std.specs.Prelude.{◌≡◌, ◌&&◌, ◌||◌, ◌+◌, ◌-◌, ◌*◌, ◌<◌, ◌≤◌, leb, ltb, length};
 ghost use Rattle.answers.specs.Sizes.{most_subjects, most_objects, most_roles, least_separations};
 ghost use Rattle.answers.specs.Call.{first_refusal};

@@ -1,4 +1,6 @@
 // The calls of a rehearsal, of flat bytes and of records, each with a tally that is lent, and of flat bytes with a tally by value.
+#![tactic(auto)]
+
 ghost use Rattle.std.specs.Prelude.{◌≡◌};
 ghost use Rattle.transfers.specs.Rehearse.{new_tally};
 ghost use Rattle.rehearsal.specs.Calls.{RehearsesFlat, RehearsesRecords, WithTally, WithLentTally};

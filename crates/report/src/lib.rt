@@ -1,4 +1,6 @@
 // The whole output of the program for a text.
+#![tactic(auto)]
+
 ghost use Rattle.std.specs.Prelude.{◌∷◌, ◌+◌, ◌*◌, ◌<◌, ◌≤◌, length, take};
 ghost use Rattle.answers.specs.Rows.{Bytes};
 ghost use Rattle.tables.specs.Sheet.{lent};

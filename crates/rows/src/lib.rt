@@ -1,4 +1,6 @@
 // The flows of each entity, by any table of channels: a search with a work list.
+#![tactic(auto)]
+
 ghost use Rattle.std.specs.Prelude.{◌≡◌, ◌+◌, ◌*◌, ◌≤◌, ◌<◌, length, replicate};
 ghost use Rattle.answers.specs.Sizes.{most_entities};
 ghost use Rattle.answers.specs.Rows.{Bytes};

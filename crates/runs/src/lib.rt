@@ -1,4 +1,6 @@
 // The start, the run and the end of a rehearsal, with its tally by value.
+#![tactic(auto)]
+
 ghost use Rattle.std.specs.Prelude.{◌≡◌, ◌+◌, ◌/◌, ◌≤◌, length};
 ghost use Rattle.answers.specs.Sizes.{least_flow};
 ghost use Rattle.answers.specs.Call.{first_refusal};

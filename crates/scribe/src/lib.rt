@@ -1,4 +1,6 @@
 // The text of a sheet, written from its tables.
+#![tactic(auto)]
+
 ghost use Rattle.std.specs.Prelude.{◌≡◌, [], ◌∷◌, ◌+◌, ◌*◌, ◌<◌, ◌≤◌, length, take};
 ghost use Rattle.tables.specs.Sheet.{lent, sheet_of};
 ghost use Rattle.digits.specs.Line.{line_of};

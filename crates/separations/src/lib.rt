@@ -1,4 +1,5 @@
 // Broken separations and shown chains, over any relation of channels: definitions and laws. No code but what judging answers.
+#![tactic(auto)]
 
 // What judging answers: the number, and the position and the chain count of the first broken separation.
 #[repr(C)]

@@ -1,4 +1,6 @@
 // Reading and writing the text of a sheet.
+#![tactic(auto)]
+
 ghost use Rattle.std.specs.Prelude.{◌≡◌, length};
 ghost use Rattle.answers.specs.Call.{first_refusal, told};
 ghost use Rattle.tables.specs.Sheet.{lent};

@@ -1,4 +1,6 @@
 // The face for C: numbers and byte buffers.
+#![tactic(auto)]
+
 ghost use Rattle.std.specs.Prelude.{◌≡◌, ◌<◌};
 ghost use Rattle.tables.specs.Sheet.{lent, counts};
 ghost use Rattle.sievemarl.specs.Packed.{packed};

@@ -1,4 +1,6 @@
 // One transfer made on marks: what it comes to, the move, its verdict byte and the counts.
+#![tactic(auto)]
+
 ghost use Rattle.std.specs.Prelude.{◌≡◌, ◌+◌, ◌*◌, ◌<◌, ◌≤◌, length, if◌then◌else◌, nat_eq};
 ghost use Rattle.answers.specs.Sizes.{most_subjects, most_objects, most_entities, most_transfers};
 ghost use Rattle.answers.specs.Rows.{Bytes};

@@ -1,4 +1,5 @@
 // The tables of a sheet, and flow tables: definitions and laws. No code but the counts.
+#![tactic(auto)]
 
 // How many subjects, objects and roles a sheet has.
 #[repr(C)]

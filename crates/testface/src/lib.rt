@@ -3,6 +3,8 @@
 //
 // An export can return neither an enum nor a part of a slice. So `compare` tells its order as a number, and `refused_line` and
 // `chosen_row` put the part itself, its place and its length, where the caller says.
+#![tactic(auto)]
+
 ghost use Rattle.rehearsal.specs.Calls.{RehearsesFlat, RehearsesRecords, WithLentTally};
 
 use answers::Told;

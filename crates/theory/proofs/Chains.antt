@@ -61,12 +61,31 @@ module _ {ch : ℕ → ℕ → Type 0} where
   best_alone = record { chain = alone; shortest = λ m c. chain_long c; smallest = λ m c e. only_alone c e }
 
 -- ---- there is at most one such chain
+not_after_both_at : {l m k j : List ℕ} → NotAfter l m → NotAfter k j → m ≡ k → l ≡ j → l ≡ m
+not_after_both_at ended ended e f = sym e
+not_after_both_at ended (less g) e f = cc
+not_after_both_at ended (equal q) e f = cc
+not_after_both_at (less h) ended e f = cc
+not_after_both_at (less {a = a} {b = b} h) (less {a = c} {b = d} g) e f =
+    let p : b ≡ c = cc in
+    let q : a ≡ d = cc in
+    absurd (omega arith)
+not_after_both_at (less {a = a} {b = b} h) (equal {a = c} q) e f =
+    let p : b ≡ c = cc in
+    let q : a ≡ c = cc in
+    absurd (omega arith)
+not_after_both_at (equal p) ended e f = cc
+not_after_both_at (equal {a = a} p) (less {a = c} {b = d} g) e f =
+    let p : a ≡ c = cc in
+    let q : a ≡ d = cc in
+    absurd (omega arith)
+not_after_both_at (equal {a = a} {l = l} {m = m} p) (equal {l = k} {m = j} q) e f =
+    let tails : m ≡ k = cc in
+    let heads : l ≡ j = cc in
+    ap (λ (t : List ℕ). a ∷ t) (not_after_both_at p q tails heads)
+
 not_after_both : {l m : List ℕ} → NotAfter l m → NotAfter m l → l ≡ m
-not_after_both ended ended = refl
-not_after_both (less h) (less g) = absurd (omega arith)
-not_after_both (less h) (equal q) = absurd (omega arith)
-not_after_both (equal p) (less g) = absurd (omega arith)
-not_after_both (equal {a = a} p) (equal q) = ap (λ (t : List ℕ). a ∷ t) (not_after_both p q)
+not_after_both p q = not_after_both_at p q refl refl
 
 -- "shortest, and among the shortest the smallest": from x to y there is at most one such chain, whatever the channels
 pub one_best : {ch : ℕ → ℕ → Type 0} {x y : ℕ} {l m : List ℕ} → Best ch x y l → Best ch x y m → l ≡ m

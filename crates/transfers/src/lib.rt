@@ -1,4 +1,5 @@
 // What transfers do to marks, and what a rehearsal of them comes to: definitions and laws. No code but the types.
+#![tactic(auto)]
 
 // What a transfer comes to: a move from one entity to another, a number or a mode out of range, or no channel.
 #[derive(Drop)]

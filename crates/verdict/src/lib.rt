@@ -1,4 +1,6 @@
 // The shown chain, and the first broken separation.
+#![tactic(auto)]
+
 ghost use Rattle.std.specs.Prelude.{◌≡◌, ◌<◌};
 ghost use Rattle.answers.specs.Call.{first_refusal};
 ghost use Rattle.tables.specs.Sheet.{lent, sheet_in};

@@ -1,5 +1,7 @@
 // An example to start from: what if a grant is taken away? Reads a sheet from standard input, sets one permission byte, and names each
 // entity whose label the change alters.
+#![tactic(auto)]
+
 ghost use Rattle.std.specs.Prelude.{◌≤◌};
 ghost use Rattle.answers.specs.Sizes.{most_entities};
 ghost use Rattle.tables.specs.Sheet.{entities};
