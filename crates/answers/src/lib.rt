@@ -8,7 +8,7 @@ ghost use Rattle.answers.specs.Rows.{some_above};
 
 // An answer number and the one value that goes with it: 0 on a refusal, and where there is nothing to tell.
 #[repr(C)]
-#[derive(Drop)]
+#[derive(Clone, Copy)]
 pub struct Told {
     pub answer: u8,
     pub value: usize,

@@ -10,7 +10,7 @@ use frames::{CheckedText, Frame, Parsed, Passed};
 use tables::Counts;
 
 // What a whole text comes to, and what is known of the lines that passed.
-#[derive(Drop)]
+#[derive(Clone, Copy)]
 pub struct Checked {
     pub verdict: CheckedText,
     pub passed: Passed,

@@ -8,7 +8,7 @@ ghost use Rattle.digits.specs.Line.{line_of};
 ghost use Rattle.digits.specs.Inner.{digit_of, byte_at, DigitsAt, Put};
 
 // A byte of the text as a digit.
-#[derive(Drop)]
+#[derive(Clone, Copy)]
 pub enum Digit {
     Value(u8),
     NotDigit,

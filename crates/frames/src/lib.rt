@@ -4,7 +4,7 @@
 use tables::Counts;
 
 // One line of a sheet.
-#[derive(Drop)]
+#[derive(Clone, Copy)]
 pub enum Frame {
     Header(u8, u8, u8),
     Assign(u8, u8),
@@ -14,7 +14,7 @@ pub enum Frame {
 }
 
 // What a line comes to: no bytes in hexadecimal, bytes that are no frame, or a frame.
-#[derive(Drop)]
+#[derive(Clone, Copy)]
 pub enum Parsed {
     NoBytes,
     NoFrame,
@@ -22,7 +22,7 @@ pub enum Parsed {
 }
 
 // What is known of the lines that were read.
-#[derive(Drop)]
+#[derive(Clone, Copy)]
 pub struct Passed {
     pub lines: usize,
     pub ended: bool,
@@ -32,7 +32,7 @@ pub struct Passed {
 }
 
 // What a whole text comes to: a number at a line, or nothing to refuse.
-#[derive(Drop)]
+#[derive(Clone, Copy)]
 pub enum CheckedText {
     Refused(u8, usize),
     Accepted,

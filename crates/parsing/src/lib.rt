@@ -10,7 +10,7 @@ ghost use Rattle.parsing.specs.Inner.{FoundAt};
 use frames::{Frame, Parsed};
 
 // A line that was read, and where the next one begins.
-#[derive(Drop)]
+#[derive(Clone, Copy)]
 pub struct Found {
     pub parsed: Parsed,
     pub next: usize,

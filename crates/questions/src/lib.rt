@@ -11,7 +11,7 @@ ghost use Rattle.labels.specs.Inner.{Asked};
 use answers::{Told, sizes};
 
 // How two entities stand to each other, or the number of a refusal.
-#[derive(Drop)]
+#[derive(Clone, Copy)]
 pub enum Compared {
     Equal,
     Below,

@@ -15,7 +15,7 @@ use tables::Counts;
 use transfers::Tally;
 
 // What a rehearsal answers, with its tally by value.
-#[derive(Drop)]
+#[derive(Clone, Copy)]
 pub struct Tallied {
     pub told: Told,
     pub tally: Tally,

@@ -23,7 +23,7 @@ const SEPARATE: u8 = 4;
 const END: u8 = 5;
 
 // Where the next line goes, and how many lines stand before it.
-#[derive(Drop)]
+#[derive(Clone, Copy)]
 pub struct Pen {
     pub at: usize,
     pub lines: usize,

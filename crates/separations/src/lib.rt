@@ -3,7 +3,7 @@
 
 // What judging answers: the number, and the position and the chain count of the first broken separation.
 #[repr(C)]
-#[derive(Drop)]
+#[derive(Clone, Copy)]
 pub struct Judged {
     pub answer: u8,
     pub position: usize,

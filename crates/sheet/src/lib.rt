@@ -14,7 +14,7 @@ use tables::Counts;
 
 // What reading answers: the number and the line of a refusal, or the counts of an accepted sheet.
 #[repr(C)]
-#[derive(Drop)]
+#[derive(Clone, Copy)]
 pub struct Reading {
     pub answer: u8,
     pub line: usize,

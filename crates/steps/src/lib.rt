@@ -13,7 +13,7 @@ use tables::Counts;
 use transfers::{Act, Transfer};
 
 // How far a rehearsal is: its refusal, how many transfers it makes, and its verdict bytes 0, 10 and 16 so far.
-#[derive(Drop)]
+#[derive(Clone, Copy)]
 pub struct Progress {
     pub answer: u8,
     pub count: usize,

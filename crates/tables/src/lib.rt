@@ -3,7 +3,7 @@
 
 // How many subjects, objects and roles a sheet has.
 #[repr(C)]
-#[derive(Drop)]
+#[derive(Clone, Copy)]
 pub struct Counts {
     pub subjects: usize,
     pub objects: usize,

@@ -2,7 +2,7 @@
 #![tactic(auto)]
 
 // What a transfer comes to: a move from one entity to another, a number or a mode out of range, or no channel.
-#[derive(Drop)]
+#[derive(Clone, Copy)]
 pub enum Act {
     Moves(usize, usize),
     OutOfRange,
@@ -11,7 +11,7 @@ pub enum Act {
 
 // A transfer: mode 1 moves from object to subject, 2 the other way.
 #[repr(C)]
-#[derive(Drop)]
+#[derive(Clone, Copy)]
 pub struct Transfer {
     pub subject: u8,
     pub object: u8,
@@ -20,7 +20,7 @@ pub struct Transfer {
 
 // The running counts of the verdict bytes 0, 10 and 16.
 #[repr(C)]
-#[derive(Drop)]
+#[derive(Clone, Copy)]
 pub struct Tally {
     pub applied: u32,
     pub outside: u32,

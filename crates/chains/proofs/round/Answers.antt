@@ -1,0 +1,40 @@
+-- `chains::round` meets its contract. What has a channel to an entity below w that is at r is settled.
+use Prim.Native.Nat.{◌-◌, ◌≤◌}
+use mathlib.Core.Path.{◌≡◌, refl, ap, ◌∙◌}
+use mathlib.Core.Logic.{⊎_elim}
+use native.Mathlib.Omega.{arith}
+use lib.ListN.{length}
+use Rattle.answers.specs.Rows.{Bytes}
+use Rattle.chains.specs.Distance.{far, Round}
+use Rattle.chains.proofs.Counts.{count_fits}
+use Rattle.chains.proofs.Rounds.{round_none, round_pass, round_more}
+use Rattle.chains.proofs.round.Goals as goal
+use Rattle.chains.proofs.round.Goals.{else-dist-w, then-dist-w}
+
+pub loop-w-init : goal.loop-w-init
+loop-w-init c = (omega arith, refl, round_none _ _ _ _)
+
+pub overflow_add-fresh : goal.overflow_add-fresh
+overflow_add-fresh c =
+    let before = c.args.dist.now in
+    omega (arith, c.loop-w.invariant.2.counted, c.settle-fresh.ensures.counted, count_fits far before)
+
+pub loop-w-preserved : goal.loop-w-preserved
+loop-w-preserved c =
+    let s = c.loop-w.invariant.2 in
+    elim c.if-dist-w.branch [
+      | then-dist-w w ↦ (
+        omega arith,
+        ap length w.5 ∙ w.2.kept.1.1.1.1.0 ∙ c.loop-w.invariant.1,
+        rw (w.5, w.6) (round_more (omega arith) s (omega arith) w.2.ensures),
+      )
+      | else-dist-w w ↦ (omega arith, ap length w.1 ∙ c.loop-w.invariant.1, rw (w.1, w.2) (round_pass (omega arith) s (λ e. omega arith)))
+    ]
+
+pub shape_of-dist : goal.shape_of-dist
+shape_of-dist c = c.loop-w.invariant.1
+
+pub returns : goal.returns
+returns c =
+    let e : c.loop-w.w ≡ c.args.n = omega arith in
+    rw e at c.loop-w.invariant.2

@@ -1,0 +1,31 @@
+-- `channels::gather` meets its contract. After a turn for each role below `role` the list has those of them that the subject has.
+use Prim.Native.Nat.{◌≤◌, ◌<◌, ◌-◌}
+use mathlib.Core.Path.{◌≡◌, refl}
+use mathlib.Core.Logic.{⊎_elim}
+use native.Mathlib.Omega.{arith}
+use lib.ListN.{length, length-set}
+use Rattle.answers.specs.Rows.{at}
+use Rattle.channels.specs.Inner.{RolesOf}
+use Rattle.channels.proofs.Gathering.{none_yet, not_this, stored}
+use Rattle.channels.proofs.gather.Goals as goal
+use Rattle.channels.proofs.gather.Goals.{else-assignment-base-eq-ASSIGNED, then-assignment-base-eq-ASSIGNED}
+
+pub loop-role-init : goal.loop-role-init
+loop-role-init c = (omega arith, refl, none_yet _ _)
+
+pub loop-role-preserved : goal.loop-role-preserved
+loop-role-preserved c =
+    let turn = c.loop-role in
+    let inside : turn.count < length turn.list = omega arith in
+    elim c.if-assignment-base-eq-ASSIGNED.branch [
+      | then-assignment-base-eq-ASSIGNED w ↦ (omega arith, rw w.1 (simp length-set turn.invariant.1), rw (w.1, w.2) (stored _ _ _ turn.list inside turn.invariant.2 (omega arith)))
+      | else-assignment-base-eq-ASSIGNED w ↦ (omega arith, rw w.1 turn.invariant.1, rw (w.1, w.2) (not_this turn.invariant.2 w.0.left))
+    ]
+
+pub shape_of-list : goal.shape_of-list
+shape_of-list c = c.loop-role.invariant.1
+
+pub returns : goal.returns
+returns c =
+    let e : c.loop-role.role ≡ c.args.roles = omega arith in
+    rw e at c.loop-role.invariant.2

@@ -1,0 +1,33 @@
+-- `lines::end_of_line` meets its contract: no line feed was passed. Assumes nothing.
+use borrow.Author.Rules.{rules}
+use native.Mathlib.Omega.{arith}
+use Prim.Native.Nat.{ℕ, ◌≤◌, ◌<◌, ◌-◌}
+use mathlib.Core.Logic.{◌≢◌}
+use borrow.Author.Count.{below_more}
+use lib.ListN.{length, get_or}
+use Rattle.digits.specs.Line.{feed}
+use Rattle.lines.proofs.end_of_line.Goals as goal
+
+pub loop-i-init : goal.loop-i-init
+loop-i-init c = (omega arith, omega arith, λ k h l. absurd (omega arith))
+
+pub returns-then-text-i-eq10 : goal.returns-then-text-i-eq10
+returns-then-text-i-eq10 c =
+    record {
+      after = omega arith;
+      within = omega arith;
+      none = λ i h l. c.loop-i.invariant.2 i l h;
+      fed = λ h. c.if-text-i-eq10.true;
+    }
+
+pub loop-i-preserved : goal.loop-i-preserved
+loop-i-preserved c = (omega arith, omega arith, below_more _ _ c.loop-i.invariant.2 (λ l. c.if-text-i-eq10.false))
+
+pub returns : goal.returns
+returns c =
+    record {
+      after = omega arith;
+      within = omega arith;
+      none = λ i h l. c.loop-i.invariant.2 i l h;
+      fed = λ h. absurd (omega arith);
+    }

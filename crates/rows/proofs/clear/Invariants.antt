@@ -1,0 +1,15 @@
+-- `rows::clear` meets its contract. After i turns the first i bytes are 0 and the others as they were.
+use Prim.Native.Nat.{ℕ, ◌≤◌, ◌-◌}
+use mathlib.Core.Path.{◌≡◌, refl, ap, ◌∙◌}
+use mathlib.Core.List.{List, ◌++◌, append-nil}
+use native.Mathlib.Omega.{arith}
+use lib.ListN.{length, set, drop, replicate, length-set}
+use lib.Seq.{drop-length}
+use borrow.Author.Fill.{fill_none, fill_more}
+use Rattle.rows.proofs.clear.Given as goal
+
+abbrev pub invariant-loop-i : goal.invariant-loop-i
+invariant-loop-i l = (l.i ≤ length l.initial.row) × (length l.row ≡ length l.initial.row) × (l.row ≡ replicate l.i 0 ++ drop l.i l.initial.row)
+
+abbrev pub decreases-loop-i : goal.decreases-loop-i
+decreases-loop-i l = length l.initial.row - l.i

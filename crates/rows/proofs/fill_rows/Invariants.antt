@@ -1,0 +1,17 @@
+-- `rows::fill_rows` meets its contract. After x turns the rows below x are filled.
+use Prim.Native.Nat.{◌≤◌, ◌+◌, ◌-◌, ◌*◌}
+use mathlib.Core.Path.{◌≡◌, refl, ◌∙◌}
+use native.Mathlib.Omega.{arith}
+use lib.ListN.{length, take, drop}
+use borrow.Rule.Slice.PartMut.{mid_len}
+use Rattle.answers.specs.Rows.{Mark, Bytes}
+use Rattle.answers.proofs.Tables.{row_within, FilledRows, no_rows, one_row_more, rows_marked}
+use Rattle.theory.specs.Flow.{Flow}
+use Rattle.rows.proofs.fill_rows.Given as goal
+
+abbrev pub invariant-loop-x : goal.invariant-loop-x
+invariant-loop-x l =
+    (l.x ≤ l.n) × (length l.flow ≡ length l.initial.flow) × FilledRows l.n (λ a b byte. Mark (Flow (Bytes l.n l.channels) a b) byte) l.x l.initial.flow l.flow
+
+abbrev pub decreases-loop-x : goal.decreases-loop-x
+decreases-loop-x l = l.n - l.x

@@ -1,0 +1,15 @@
+-- `rows::reach` meets its contract. Between two spreads the search goes on.
+use Prim.Native.Nat.{◌-◌}
+use mathlib.Core.Path.{◌≡◌, refl, ◌∙◌}
+use native.Mathlib.Omega.{arith}
+use lib.ListN.{length}
+use Rattle.answers.specs.Rows.{Bytes}
+use Rattle.theory.proofs.Filled.{bytes_inside}
+use Rattle.rows.proofs.Searches.{Searching, searching_first, searching_next, searching_done}
+use Rattle.rows.proofs.reach.Given as goal
+
+abbrev pub invariant-loop-head : goal.invariant-loop-head
+invariant-loop-head l = (length l.order ≡ length l.initial.order) × Searching (Bytes l.n l.channels) l.n l.x l.order l.head l.tail
+
+abbrev pub decreases-loop-head : goal.decreases-loop-head
+decreases-loop-head l = l.n - l.head

@@ -1,0 +1,18 @@
+-- `rows::spread` meets its contract. The entities before k have been looked at.
+use Prim.Native.Nat.{◌+◌, ◌*◌, ◌-◌, ◌≤◌, ◌<◌}
+use mathlib.Core.Path.{◌≡◌, refl, ap, ◌∙◌}
+use mathlib.Core.Logic.{⊎_elim}
+use native.Mathlib.Omega.{arith}
+use lib.ListN.{length, get_or, length-set}
+use Rattle.answers.specs.Rows.{Bytes}
+use Rattle.answers.proofs.Tables.{row_within}
+use Rattle.rows.specs.Search.{Spread}
+use Rattle.rows.proofs.Spreads.{spread_none, spread_pass, spread_take}
+use Rattle.rows.proofs.spread.Given as goal
+
+abbrev pub invariant-loop-k : goal.invariant-loop-k
+invariant-loop-k l =
+    (l.k ≤ l.n) × (length l.order ≡ length l.initial.order) × Spread (Bytes l.n l.channels) l.n l.u l.k l.initial.order l.order l.tail l.end
+
+abbrev pub decreases-loop-k : goal.decreases-loop-k
+decreases-loop-k l = l.n - l.k
