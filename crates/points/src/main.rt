@@ -4,15 +4,12 @@
 
 ghost use Rattle.std.specs.Prelude.{◌*◌, ◌≤◌, length};
 
-use libc::STDOUT_FILENO;
+use std::io;
 use tables::Counts;
 use transfers::Tally;
 
-fn print(what: &[u8], answer: u8) {
-    io::write_all(STDOUT_FILENO, what);
-    io::write_all(STDOUT_FILENO, b": ");
-    io::print_decimal(STDOUT_FILENO, answer as u64);
-    io::write_all(STDOUT_FILENO, b"\n");
+fn print(rt: &impl Print, what: &str, answer: u8) -> io::Result<()> {
+    println!(rt; "{what}: {answer}")
 }
 
 // ---- reading
@@ -89,15 +86,27 @@ fn rehearse_start(list: &[u8], transfers: usize) -> u8
     rehearse(&list[..3 * transfers], 0)
 }
 
-fn main() {
-    print(b"no subject, object or role", read(b"01000000\n050001\n"));
-    print(b"48 subjects", read(b"01300000\n050001\n"));
-    print(b"49 subjects", read(b"01310000\n050001\n"));
-    print(b"64 separations", read_separations(64));
-    print(b"65 separations", read_separations(65));
+fn main(rt: HostRuntime) -> io::Result<()> {
+    print(
+        &rt,
+        "no subject, object or role",
+        read(b"01000000\n050001\n"),
+    )?;
+    print(&rt, "48 subjects", read(b"01300000\n050001\n"))?;
+    print(&rt, "49 subjects", read(b"01310000\n050001\n"))?;
+    print(&rt, "64 separations", read_separations(64))?;
+    print(&rt, "65 separations", read_separations(65))?;
     let list = [0u8; 12291];
-    print(b"4096 transfers", rehearse_start(&list, 4096));
-    print(b"4097 transfers", rehearse_start(&list, 4097));
-    print(b"a tally count of 4294963199", rehearse(b"", 4294963199));
-    print(b"a tally count of 4294963200", rehearse(b"", 4294963200));
+    print(&rt, "4096 transfers", rehearse_start(&list, 4096))?;
+    print(&rt, "4097 transfers", rehearse_start(&list, 4097))?;
+    print(
+        &rt,
+        "a tally count of 4294963199",
+        rehearse(b"", 4294963199),
+    )?;
+    print(
+        &rt,
+        "a tally count of 4294963200",
+        rehearse(b"", 4294963200),
+    )
 }
