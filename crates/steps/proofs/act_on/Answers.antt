@@ -1,5 +1,5 @@
 -- `steps::act_on` meets its contract: the arm that moves is told which move the act is.
-use Rattle.std.proofs.Common.{◌∙◌, rules}
+use Rattle.std.proofs.Common.{◌∙◌}
 use Rattle.transfers.specs.Acts.{verdict_byte, acted}
 use Rattle.steps.proofs.Coming.{move_ends}
 use Rattle.steps.proofs.act_on.Goals as goal

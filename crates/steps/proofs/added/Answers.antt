@@ -1,5 +1,4 @@
 -- `steps::added` meets its contract.
-use Rattle.std.proofs.Common.{rules}
 use Rattle.transfers.specs.Acts.{plus}
 use Rattle.steps.proofs.added.Goals as goal
 

@@ -1,5 +1,5 @@
 -- `steps::come_to` meets its contract: each return by the tests that led there.
-use Rattle.std.proofs.Common.{arith, rules}
+use Rattle.std.proofs.Common.{arith}
 use Rattle.transfers.specs.Transfers.{to_subject, to_object}
 use Rattle.steps.proofs.Coming.{outside_subject, outside_object, outside_mode, way_comes}
 use Rattle.steps.proofs.come_to.Goals as goal

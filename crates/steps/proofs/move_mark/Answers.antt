@@ -1,5 +1,4 @@
 -- `steps::move_mark` meets its contract: the store is that of a move.
-use Rattle.std.proofs.Common.{rules}
 use Rattle.transfers.specs.Acts.{acted}
 use Rattle.steps.proofs.move_mark.Goals as goal
 

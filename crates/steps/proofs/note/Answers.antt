@@ -1,5 +1,4 @@
 -- `steps::note` meets its contract.
-use Rattle.std.proofs.Common.{rules}
 use Rattle.steps.specs.Inner.{noted}
 use Rattle.steps.proofs.note.Goals as goal
 

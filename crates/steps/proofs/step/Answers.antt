@@ -1,5 +1,5 @@
 -- `steps::step` meets its contract.
-use Rattle.std.proofs.Common.{◌∙◌, rules}
+use Rattle.std.proofs.Common.{◌∙◌}
 use Rattle.steps.proofs.Coming.{comes_within}
 use Rattle.steps.proofs.step.Goals as goal
 
