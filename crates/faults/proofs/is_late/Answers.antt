@@ -1,5 +1,4 @@
 -- `faults::is_late` meets its contract.
-use borrow.Author.Rules.{rules}
 use mathlib.Core.Path.{refl}
 use Rattle.faults.proofs.is_late.Goals as goal
 

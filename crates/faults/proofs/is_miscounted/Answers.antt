@@ -1,5 +1,4 @@
 -- `faults::is_miscounted` meets its contract. Assumes nothing.
-use borrow.Author.Rules.{rules}
 use mathlib.Core.Path.{ap}
 use Rattle.frames.specs.Check.{miscounted}
 use Rattle.faults.proofs.is_miscounted.Goals as goal

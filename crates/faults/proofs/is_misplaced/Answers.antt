@@ -1,5 +1,4 @@
 -- `faults::is_misplaced` meets its contract. Assumes nothing.
-use borrow.Author.Rules.{rules}
 use Rattle.frames.specs.Check.{misplaced}
 use Rattle.faults.proofs.is_misplaced.Goals as goal
 

@@ -1,5 +1,4 @@
 -- `faults::is_out_of_range` meets its contract. Assumes nothing.
-use borrow.Author.Rules.{rules}
 use mathlib.Core.Path.{ap}
 use Rattle.frames.specs.Check.{out_of_range}
 use Rattle.faults.proofs.is_out_of_range.Goals as goal

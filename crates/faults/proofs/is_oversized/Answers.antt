@@ -1,5 +1,4 @@
 -- `faults::is_oversized` meets its contract. Assumes nothing.
-use borrow.Author.Rules.{rules}
 use Rattle.frames.specs.Check.{oversized}
 use Rattle.faults.proofs.is_oversized.Goals as goal
 

@@ -1,5 +1,4 @@
 -- `faults::is_too_many` meets its contract. Assumes nothing.
-use borrow.Author.Rules.{rules}
 use Rattle.frames.specs.Check.{too_many}
 use Rattle.faults.proofs.is_too_many.Goals as goal
 

@@ -1,5 +1,4 @@
 -- `faults::key_of` meets its contract. Assumes nothing.
-use borrow.Author.Rules.{rules}
 use mathlib.Core.Path.{ap}
 use Rattle.frames.specs.Frame.{key}
 use Rattle.faults.proofs.key_of.Goals as goal

@@ -1,5 +1,4 @@
 -- `faults::line_fault` meets its contract: 9 after the end line, else what the line is refused by.
-use borrow.Author.Rules.{rules}
 use Rattle.answers.specs.Call.{first_refusal}
 use Rattle.frames.specs.Check.{line_refusals}
 use Rattle.faults.proofs.Faults.{later}

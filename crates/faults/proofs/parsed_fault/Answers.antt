@@ -1,5 +1,4 @@
 -- `faults::parsed_fault` meets its contract.
-use borrow.Author.Rules.{rules}
 use Rattle.answers.specs.Call.{first_refusal}
 use Rattle.frames.specs.Check.{parsed_refusals}
 use Rattle.faults.proofs.parsed_fault.Goals as goal

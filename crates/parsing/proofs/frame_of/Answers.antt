@@ -1,5 +1,4 @@
 -- `parsing::frame_of` meets its contract: the length decides how many bytes there are. Assumes nothing.
-use borrow.Author.Rules.{rules}
 use native.Mathlib.Omega.{arith}
 use Rattle.digits.proofs.Pairs.{digits_at}
 use Rattle.parsing.proofs.Parses.{of_six, of_eight, of_other}

@@ -1,5 +1,4 @@
 -- `parsing::parse_at` meets its contract: the line is the first one of the rest of the text. Assumes nothing.
-use borrow.Author.Rules.{rules}
 use Rattle.parsing.proofs.Parses.{line_found}
 use Rattle.parsing.proofs.parse_at.Goals as goal
 

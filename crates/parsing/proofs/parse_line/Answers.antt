@@ -1,7 +1,5 @@
 -- `parsing::parse_line` meets its contract: each way out has its law. Assumes nothing.
-use borrow.Author.Rules.{rules}
 use mathlib.Core.Path.{sym, ◌∙◌}
-use borrow.Author.Tests.{not-true, not-false}
 use Rattle.parsing.proofs.Parses.{parse_unended, parse_empty, parse_unpaired, parse_pairs}
 use Rattle.parsing.proofs.parse_line.Goals as goal
 
