@@ -21,7 +21,7 @@ gather_all-requires c =
 pub fill_rows-requires : goal.fill_rows-requires
 fill_rows-requires c =
     let gathered = c.gather_all in
-    (askable ((lent c.args.c c.args.assignment.now c.args.permission.now)) gathered.ensures c.requires.sized (omega (arith, gathered.auto.1.1.1.0)) (omega (arith, gathered.auto.1.1.1.1.0)), c.requires.room)
+    (askable ((lent c.args.c c.args.assignment.now c.args.permission.now)) gathered.ensures c.requires.sized (omega (arith, gathered.auto.lists)) (omega (arith, gathered.auto.used)), c.requires.room)
 
 pub returns : goal.returns
 returns c =

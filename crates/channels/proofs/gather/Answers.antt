@@ -18,8 +18,13 @@ loop-role-preserved c =
     let turn = c.loop-role in
     let inside : turn.count < length turn.list = omega arith in
     elim c.if-assignment-base-eq-ASSIGNED.branch [
-      | then-assignment-base-eq-ASSIGNED w ↦ (omega arith, rw w.1 (simp length-set turn.invariant.1), rw (w.1, w.2) (stored _ _ _ turn.list inside turn.invariant.2 (omega arith)))
-      | else-assignment-base-eq-ASSIGNED w ↦ (omega arith, rw w.1 turn.invariant.1, rw (w.1, w.2) (not_this turn.invariant.2 w.0.left))
+      | then-assignment-base-eq-ASSIGNED w ↦ (
+        omega arith,
+        rw w.list-is (simp length-set turn.invariant.1),
+        rw (w.list-is, w.count-is) (stored _ _ _ turn.list inside turn.invariant.2 (omega arith)),
+      )
+      | else-assignment-base-eq-ASSIGNED w ↦
+          (omega arith, rw w.list-is turn.invariant.1, rw (w.list-is, w.count-is) (not_this turn.invariant.2 w.if-assignment-base-eq-ASSIGNED.false))
     ]
 
 pub shape_of-list : goal.shape_of-list

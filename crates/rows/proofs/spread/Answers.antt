@@ -40,11 +40,11 @@ loop-k-preserved c =
     elim c.if-channels-base-eq1.branch [
       | then-channels-base-eq1 w ↦ (
         omega arith,
-        ap length w.2 ∙ simp length-set c.loop-k.invariant.1,
-        rw (w.2, w.3)
+        ap length w.order-is ∙ simp length-set c.loop-k.invariant.1,
+        rw (w.order-is, w.end-is)
             (spread_take s (omega arith) (record { source = omega arith; target = entity (goal.at.loop-k-preserved c).In-loop-k; byte = omega arith })),
       )
-      | else-channels-base-eq1 w ↦ (omega arith, ap length w.1 ∙ c.loop-k.invariant.1, rw (w.1, w.2) (spread_pass s (λ d. omega arith)))
+      | else-channels-base-eq1 w ↦ (omega arith, ap length w.order-is ∙ c.loop-k.invariant.1, rw (w.order-is, w.end-is) (spread_pass s (λ d. omega arith)))
     ]
 
 pub shape_of-order : goal.shape_of-order
