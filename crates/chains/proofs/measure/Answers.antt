@@ -34,7 +34,7 @@ loop-fresh-smaller c = omega (arith, c.round-fresh.ensures.counted)
 
 pub loop-fresh-preserved : goal.loop-fresh-preserved
 loop-fresh-preserved c = (
-  c.round-fresh.auto.1.1.1.0 ∙ c.loop-fresh.invariant.0,
+  c.round-fresh.auto.dist ∙ c.loop-fresh.invariant.0,
   phase_next (bytes_inside _ _) (omega arith) c.round-fresh.ensures c.loop-fresh.invariant.1 (omega arith),
 )
 

@@ -8,7 +8,7 @@ use Rattle.answers.specs.Rows.{Bytes}
 use Rattle.answers.proofs.Tables.{row_within}
 use Rattle.chains.proofs.Scans.{Scanned, scan_none, scan_found, scan_pass, scan_all}
 use Rattle.chains.proofs.next_at.Goals as goal
-use Rattle.chains.proofs.next_at.Goals.{Start, else-channels-base-eq1, then-channels-base-eq1}
+use Rattle.chains.proofs.next_at.Goals.{Start, else-channels-base-eq1, then-channels-base-eq1+then-dist-w, then-channels-base-eq1+else-dist-w}
 
 -- the row of v lies within the table
 within : (c : Start) → c.args.v * c.args.n + c.args.n ≤ length c.args.channels.now
@@ -30,9 +30,10 @@ pub loop-w-preserved : goal.loop-w-preserved
 loop-w-preserved c =
     let s = c.loop-w.invariant in
     elim c.if-channels-base-eq1.branch [
-      then-channels-base-eq1 w ↦ rw w.3 (scan_found s (omega arith) (record { source = omega arith; target = omega arith; byte = omega arith }, omega arith)))
-    (⊎_elim (λ w. rw w.3 (scan_pass s (λ p. omega arith))
-    | else-channels-base-eq1 w ↦ rw w.1 (scan_pass s (λ p. omega arith)))
+      | then-channels-base-eq1+then-dist-w w ↦
+          rw w.found-is (scan_found s (omega arith) (record { source = omega arith; target = omega arith; byte = omega arith }, omega arith))
+      | then-channels-base-eq1+else-dist-w w ↦ rw w.found-is (scan_pass s (λ p. omega arith))
+      | else-channels-base-eq1 w ↦ rw w.found-is (scan_pass s (λ p. omega arith))
     ]
 
 pub returns : goal.returns

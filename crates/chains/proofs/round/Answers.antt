@@ -25,10 +25,10 @@ loop-w-preserved c =
     elim c.if-dist-w.branch [
       | then-dist-w w ↦ (
         omega arith,
-        ap length w.5 ∙ w.2.kept.1.1.1.1.0 ∙ c.loop-w.invariant.1,
-        rw (w.5, w.6) (round_more (omega arith) s (omega arith) w.2.ensures),
+        ap length w.dist-is ∙ w.settle-fresh.auto.dist ∙ c.loop-w.invariant.1,
+        rw (w.dist-is, w.fresh-is) (round_more (omega arith) s (omega arith) w.settle-fresh.ensures),
       )
-      | else-dist-w w ↦ (omega arith, ap length w.1 ∙ c.loop-w.invariant.1, rw (w.1, w.2) (round_pass (omega arith) s (λ e. omega arith)))
+      | else-dist-w w ↦ (omega arith, ap length w.dist-is ∙ c.loop-w.invariant.1, rw (w.dist-is, w.fresh-is) (round_pass (omega arith) s (λ e. omega arith)))
     ]
 
 pub shape_of-dist : goal.shape_of-dist

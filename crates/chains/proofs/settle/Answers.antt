@@ -9,7 +9,7 @@ use Rattle.answers.proofs.Tables.{row_within}
 use Rattle.chains.specs.Distance.{Settled}
 use Rattle.chains.proofs.Rounds.{settled_none, settled_pass, settled_set}
 use Rattle.chains.proofs.settle.Goals as goal
-use Rattle.chains.proofs.settle.Goals.{In-loop-v, else-dist-v, then-dist-v}
+use Rattle.chains.proofs.settle.Goals.{In-loop-v, else-dist-v, then-dist-v+then-channels-v-eq1, then-dist-v+else-channels-v-eq1}
 
 -- the row of v lies within the table
 within : (c : In-loop-v) →
@@ -35,16 +35,17 @@ pub loop-v-preserved : goal.loop-v-preserved
 loop-v-preserved c =
     let s = c.loop-v.invariant.3 in
     elim c.if-dist-v.branch [
-      then-dist-v w ↦ (
-      omega arith,
-      omega arith,
-      ap length w.3 ∙ simp length-set c.loop-v.invariant.2,
-      rw (w.3, w.4)
-          (settled_set s (omega arith) (omega arith) (omega arith) (record { source = omega arith; target = omega arith; byte = omega arith })),
-    ))
-    (⊎_elim
-    (λ w. (omega arith, omega arith, ap length w.3 ∙ c.loop-v.invariant.2, rw (w.3, w.4) (settled_pass s (λ e p. omega arith)))
-    | else-dist-v w ↦ (omega arith, omega arith, ap length w.1 ∙ c.loop-v.invariant.2, rw (w.1, w.2) (settled_pass s (λ e p. omega arith))))
+      | then-dist-v+then-channels-v-eq1 w ↦ (
+        omega arith,
+        omega arith,
+        ap length w.dist-is ∙ simp length-set c.loop-v.invariant.2,
+        rw (w.dist-is, w.fresh-is)
+            (settled_set s (omega arith) (omega arith) (omega arith) (record { source = omega arith; target = omega arith; byte = omega arith })),
+      )
+      | then-dist-v+else-channels-v-eq1 w ↦
+          (omega arith, omega arith, ap length w.dist-is ∙ c.loop-v.invariant.2, rw (w.dist-is, w.fresh-is) (settled_pass s (λ e p. omega arith)))
+      | else-dist-v w ↦
+          (omega arith, omega arith, ap length w.dist-is ∙ c.loop-v.invariant.2, rw (w.dist-is, w.fresh-is) (settled_pass s (λ e p. omega arith)))
     ]
 
 pub shape_of-dist : goal.shape_of-dist

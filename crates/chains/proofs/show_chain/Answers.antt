@@ -13,4 +13,7 @@ returns-then-dist-x c =
 pub walk-requires : goal.walk-requires
 walk-requires c =
     let t = c.measure.ensures in
-    ((omega arith, omega arith, omega arith, byte_found (t.final c.args.x (omega arith)) (λ e. omega arith), omega arith), t)
+    record {
+      n_le_most_entities = (omega arith, omega arith, omega arith, byte_found (t.final c.args.x (omega arith)) (λ e. omega arith), omega arith);
+      distances = t;
+    }

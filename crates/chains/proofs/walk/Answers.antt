@@ -7,19 +7,17 @@ use Rattle.answers.specs.Rows.{Bytes}
 use Rattle.theory.proofs.Filled.{bytes_inside}
 use Rattle.chains.proofs.Walks.{away, walk_within, walk_link, Walking, walking_first, walking_next, walking_last}
 use Rattle.chains.proofs.walk.Goals as goal
-use Rattle.chains.proofs.walk.Goals.{In-loop-at}
+use Rattle.chains.proofs.walk.Goals.{In-loop-at, After-next_at-at}
 
 -- in a turn the distance is not 0
 ahead : (c : In-loop-at) → 0 < get_or c.args.dist.now c.loop-at.at 0
 ahead c =
-    away (bytes_inside _ _) c.requires.1 c.loop-at.at c.loop-at.invariant.0 (omega arith) (λ e. omega arith)
+    away (bytes_inside _ _) c.requires.distances c.loop-at.at c.loop-at.invariant.0 (omega arith) (λ e. omega arith)
 
 -- what `next_at` found is an entity
-found : (c : tie.After-next-at invariant-loop decreases-loop) → c.next-at.result < c.before.before.before.before.before.before.before.args.n
-found c =
-    let at_turn = c.before.before in
-    let at_start = at_turn.before.before.before.before.before in
-    walk_within (bytes_inside _ _) at_start.requires.1 at_turn.before.loop.invariant.0 (omega arith) (omega (arith, ahead at_turn)) c.next-at.ensures
+found : (c : After-next_at-at) → 0 < get_or c.args.dist.now c.loop-at.at 0 → c.next_at-at.result < c.args.n
+found c more =
+    walk_within (bytes_inside _ _) c.requires.distances c.loop-at.invariant.0 (omega arith) (omega arith) c.next_at-at.ensures
 
 pub loop-at-init : goal.loop-at-init
 loop-at-init c = (omega arith, omega arith, refl, walking_first _ _ _ _)
@@ -28,15 +26,15 @@ pub overflow_sub-d : goal.overflow_sub-d
 overflow_sub-d c = ahead (goal.at.overflow_sub-d c).In-loop-at
 
 pub loop-at-smaller : goal.loop-at-smaller
-loop-at-smaller c = omega (arith, ahead (goal.at.loop-at-smaller c).In-loop-at, (c.next_at-at.ensures.found (found (goal.at.loop-at-smaller c).After-next_at-at)).1)
+loop-at-smaller c = omega (arith, ahead (goal.at.loop-at-smaller c).In-loop-at, (c.next_at-at.ensures.found (found (goal.at.loop-at-smaller c).After-next_at-at (ahead (goal.at.loop-at-smaller c).In-loop-at))).1)
 
 pub loop-at-preserved : goal.loop-at-preserved
 loop-at-preserved c = (
-  found (goal.at.loop-at-preserved c).After-next_at-at,
-  omega (arith, ahead (goal.at.loop-at-preserved c).In-loop-at, (c.next_at-at.ensures.found (found (goal.at.loop-at-preserved c).After-next_at-at)).1),
+  found (goal.at.loop-at-preserved c).After-next_at-at (ahead (goal.at.loop-at-preserved c).In-loop-at),
+  omega (arith, ahead (goal.at.loop-at-preserved c).In-loop-at, (c.next_at-at.ensures.found (found (goal.at.loop-at-preserved c).After-next_at-at (ahead (goal.at.loop-at-preserved c).In-loop-at))).1),
   simp length-set c.loop-at.invariant.2,
   walking_next c.loop-at.invariant.3 (omega arith)
-      (walk_link (bytes_inside _ _) c.requires.1 c.loop-at.invariant.0 (omega arith) (omega (arith, ahead (goal.at.loop-at-preserved c).In-loop-at))
+      (walk_link (bytes_inside _ _) c.requires.distances c.loop-at.invariant.0 (omega arith) (omega (arith, ahead (goal.at.loop-at-preserved c).In-loop-at))
       c.next_at-at.ensures),
 )
 

@@ -21,9 +21,9 @@ gather_all-requires c =
 pub fill_rows-requires : goal.fill_rows-requires
 fill_rows-requires c =
     let gathered = c.gather_all in
-    (askable ((lent c.args.c c.args.assignment.now c.args.permission.now)) gathered.ensures c.requires.sized (omega (arith, gathered.auto.lists)) (omega (arith, gathered.auto.used)), c.requires.room)
+    (askable (lent c.args.c c.args.assignment.now c.args.permission.now) gathered.ensures c.requires.sized (omega (arith, gathered.auto.lists)) (omega (arith, gathered.auto.used)), c.requires.room)
 
 pub returns : goal.returns
 returns c =
     let gathered = c.gather_all.ensures in
-    filled_agrees (by_lists ((lent c.args.c c.args.assignment.now c.args.permission.now)) gathered) (to_lists ((lent c.args.c c.args.assignment.now c.args.permission.now)) gathered) c.fill_rows.ensures
+    filled_agrees (by_lists (lent c.args.c c.args.assignment.now c.args.permission.now) gathered) (to_lists (lent c.args.c c.args.assignment.now c.args.permission.now) gathered) c.fill_rows.ensures
