@@ -1,5 +1,4 @@
 -- The laws of demand 3 at the small sheet and its network: their premises are met.
-use Prim.Native.Nat.{◌<◌}
 use mathlib.Core.Path.{◌≡◌, refl}
 use mathlib.Core.List.{[], ◌∷◌}
 use lib.Dec.{lit<}

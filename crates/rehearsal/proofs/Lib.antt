@@ -8,9 +8,5 @@ pub mod ShownChain
 pub mod SmallSheet
 pub mod SmallCalls
 pub mod Instances
--- For the proofs of functions. The walks are written by tools/walks.py, since the borrow checker covers no reference to a struct.
+-- For the proofs of functions.
 pub mod Settled
-pub mod Again
-pub mod Loop
-pub mod LocalBytes
-pub mod LentTally

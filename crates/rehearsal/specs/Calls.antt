@@ -1,5 +1,7 @@
 -- The calls of a rehearsal: their refusals, and their contracts.
 use Rattle.std.specs.Prelude.{ℕ, ◌%◌, not, List, [], ◌∷◌, eqb, length}
+use Rattle.std.specs.Borrow.{MutBor}
+use denote.Triple.Both.{Both}
 use Rattle.answers.specs.declared.Told.{Told}
 use Rattle.answers.specs.Sizes.{most_transfers, most_transfer_bytes}
 use Rattle.answers.specs.Call.{Refusal, ◌if◌, ◌then◌, Outcome, Loan}
@@ -49,16 +51,20 @@ abbrev pub rehearsed_with : Told → List ℕ → List ℕ → Tally → Rehears
 rehearsed_with r marks verdicts t = record { answer = r.answer; applied = r.value; marks = marks; verdicts = verdicts; tally = t }
 
 -- ---- a contract, by what a call finds in what it is lent and what it leaves there
+-- what a contract knows of what is lent to be written: the reference at entry and at exit
+abbrev pub MutLoan : Type 0 → Type 0
+MutLoan X = Both (MutBor X) (MutBor X)
+
 -- of a call with its tally by value
 abbrev pub WithTally : {T : Type 0} → (Lent → List T → List ℕ → List ℕ → Tally → Rehearsed → Type 0) →
-    Counts → (assignment permission : Loan (List ℕ)) → Loan (List T) → (marks verdicts : Loan (List ℕ)) → Tally → Tallied → Type 0
+    Counts → (assignment permission : Loan (List ℕ)) → Loan (List T) → (marks verdicts : MutLoan (List ℕ)) → Tally → Tallied → Type 0
 WithTally Call counts assignment permission transfers marks verdicts tally r =
     Call (lent counts assignment.entry.now permission.entry.now) transfers.entry.now marks.entry.now verdicts.entry.now
     tally (rehearsed_to r marks.exit.now verdicts.exit.now)
 
 -- of a call with a lent tally
 abbrev pub WithLentTally : {T : Type 0} → (Lent → List T → List ℕ → List ℕ → Tally → Rehearsed → Type 0) →
-    Counts → (assignment permission : Loan (List ℕ)) → Loan (List T) → (marks verdicts : Loan (List ℕ)) → Loan Tally → Told → Type 0
+    Counts → (assignment permission : Loan (List ℕ)) → Loan (List T) → (marks verdicts : MutLoan (List ℕ)) → MutLoan Tally → Told → Type 0
 WithLentTally Call counts assignment permission transfers marks verdicts tally r =
     Call (lent counts assignment.entry.now permission.entry.now) transfers.entry.now marks.entry.now verdicts.entry.now
     tally.entry.now (rehearsed_with r marks.exit.now verdicts.exit.now tally.exit.now)

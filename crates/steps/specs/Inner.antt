@@ -1,6 +1,6 @@
 -- How one transfer is made. No promise: it only ties functions together.
 use Rattle.std.specs.Prelude.{◌≡◌, ℕ, ◌+◌, ◌*◌, ◌<◌, ◌≤◌, cond, List, length, ◌==◌, slice_set}
-use Rattle.std.specs.Borrow.{Bor}
+use Rattle.std.specs.Borrow.{MutBor}
 use Rattle.answers.specs.Sizes.{most_subjects, most_objects, most_transfers}
 use Rattle.answers.specs.Rows.{Bytes}
 use Rattle.tables.specs.declared.Counts.{Counts}
@@ -49,7 +49,7 @@ abbrev pub state_of : List ℕ → List ℕ → Progress → State
 state_of marks verdicts p = record { marks = marks; verdicts = verdicts; progress = p }
 
 -- the same of lent marks and verdict bytes
-abbrev pub state : Bor (List ℕ) → Bor (List ℕ) → Progress → State
+abbrev pub state : MutBor (List ℕ) → MutBor (List ℕ) → Progress → State
 state marks verdicts p = state_of marks.now verdicts.now p
 
 -- a rehearsal that can make its transfer number k
