@@ -1,0 +1,12 @@
+-- `questions::both_asked_refusal` meets its contract: one list, and then the other.
+use borrow.Author.Rules.{rules}
+use Rattle.answers.specs.Call.{first_refusal}
+use Rattle.answers.proofs.Calls.{by_both}
+use Rattle.tables.specs.FlowTable.{pair_asked_refusals}
+use Rattle.questions.specs.Questions.{both_asked_refusals}
+use Rattle.tables.proofs.FlowTables.{flow_numbered}
+use Rattle.questions.proofs.both_asked_refusal.Goals as goal
+
+pub returns : goal.returns
+unfolding first_refusal both_asked_refusals pair_asked_refusals
+returns c = rw (by_both _ _ (flow_numbered _ _ _)) cc

@@ -1,0 +1,15 @@
+-- `questions::class_name` meets its contract: each return by what its callees answered.
+use mathlib.Core.Path.{sym, ◌∙◌}
+use borrow.Author.Rules.{rules}
+use Rattle.questions.proofs.Asked.{asked_passed}
+use Rattle.questions.proofs.Outcomes.{asked_refused, asked_done}
+use Rattle.questions.proofs.class_name.Goals as goal
+
+pub returns-then-refusal-ne0 : goal.returns-then-refusal-ne0
+returns-then-refusal-ne0 c = asked_refused _ _ _ _ c.asked_refusal-refusal.ensures c.if-refusal-ne0.true
+
+pub smallest_member-requires : goal.smallest_member-requires
+smallest_member-requires c = (asked_passed _ _ _ _ (sym c.asked_refusal-refusal.ensures ∙ c.if-refusal-ne0.false)).1
+
+pub returns : goal.returns
+returns c = asked_done _ _ _ _ (sym c.asked_refusal-refusal.ensures ∙ c.if-refusal-ne0.false) c.smallest_member.ensures
