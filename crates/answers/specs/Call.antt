@@ -1,6 +1,6 @@
 -- How every call answers: by the first refusal on its list whose test holds, or by what it is for.
 use Rattle.std.specs.Prelude.{◌≡◌, ◌≢◌, Bool, cond, List, [], ◌∷◌, ◌++◌, ℕ, zero, suc}
-use Rattle.std.specs.Borrow.{Bor}
+use Rattle.std.specs.Borrow.{Bor, MutBor}
 use denote.Triple.Both.{Both}
 use Rattle.answers.specs.declared.Told.{Told}
 
@@ -40,9 +40,13 @@ pub record Outcome {R : Type 0} (refusals : List Refusal) (refused : ℕ → R) 
 abbrev pub told : ℕ → ℕ → Told
 told n v = record { answer = n; value = v }
 
--- what a contract knows of what is lent: the reference at entry and at exit
+-- what a contract knows of what is lent to be read: the reference at entry and at exit
 abbrev pub Loan : Type 0 → Type 0
 Loan X = Both (Bor X) (Bor X)
+
+-- the same of what is lent to be written
+abbrev pub MutLoan : Type 0 → Type 0
+MutLoan X = Both (MutBor X) (MutBor X)
 
 -- a refusal of a call that writes one buffer
 abbrev pub left : List ℕ → ℕ → ℕ × List ℕ

@@ -1,8 +1,7 @@
 -- Filling the lent tables with a sheet.
 use Rattle.std.specs.Prelude.{ℕ, ◌≤◌, ◌≡◌, List, length}
-use Rattle.std.specs.Borrow.{MutBor}
-use denote.Triple.Both.{Both}
 use Rattle.answers.specs.Sizes.{least_assignment, least_permission, least_separations}
+use Rattle.answers.specs.Call.{MutLoan}
 use Rattle.answers.specs.Rows.{over}
 use Rattle.tables.specs.Sheet.{Sheet}
 
@@ -15,10 +14,6 @@ pub record Tables : Type 0 where
 -- these three
 abbrev pub tables : List ℕ → List ℕ → List ℕ → Tables
 tables assignment permission separations = record { assignment = assignment; permission = permission; separations = separations }
-
--- what a contract knows of what is lent to be written: the reference at entry and at exit
-abbrev pub MutLoan : Type 0 → Type 0
-MutLoan X = Both (MutBor X) (MutBor X)
 
 -- the tables as a call finds them
 abbrev pub at_entry : (assignment permission separations : MutLoan (List ℕ)) → Tables

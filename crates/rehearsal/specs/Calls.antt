@@ -1,10 +1,8 @@
 -- The calls of a rehearsal: their refusals, and their contracts.
 use Rattle.std.specs.Prelude.{ℕ, ◌%◌, not, List, [], ◌∷◌, eqb, length}
-use Rattle.std.specs.Borrow.{MutBor}
-use denote.Triple.Both.{Both}
 use Rattle.answers.specs.declared.Told.{Told}
 use Rattle.answers.specs.Sizes.{most_transfers, most_transfer_bytes}
-use Rattle.answers.specs.Call.{Refusal, ◌if◌, ◌then◌, Outcome, Loan}
+use Rattle.answers.specs.Call.{Refusal, ◌if◌, ◌then◌, Outcome, Loan, MutLoan}
 use Rattle.answers.specs.Rows.{exceeds}
 use Rattle.tables.specs.declared.Counts.{Counts}
 use Rattle.tables.specs.Sheet.{Lent, lent, sheet_in}
@@ -49,11 +47,6 @@ rehearsed_to r marks verdicts =
 -- the same of a call with a lent tally
 abbrev pub rehearsed_with : Told → List ℕ → List ℕ → Tally → Rehearsed
 rehearsed_with r marks verdicts t = record { answer = r.answer; applied = r.value; marks = marks; verdicts = verdicts; tally = t }
-
--- ---- a contract, by what a call finds in what it is lent and what it leaves there
--- what a contract knows of what is lent to be written: the reference at entry and at exit
-abbrev pub MutLoan : Type 0 → Type 0
-MutLoan X = Both (MutBor X) (MutBor X)
 
 -- of a call with its tally by value
 abbrev pub WithTally : {T : Type 0} → (Lent → List T → List ℕ → List ℕ → Tally → Rehearsed → Type 0) →
