@@ -5,7 +5,6 @@ use mathlib.Core.List.{List}
 use native.Mathlib.Omega.{arith}
 use Rattle.answers.specs.Rows.{Mark, one, none, Bytes}
 use Rattle.answers.proofs.Marks.{mark_agrees, marked_yes, marked_unless}
-use Rattle.theory.specs.Order.{below}
 use Rattle.theory.specs.Effect.{Gained, Effect}
 use Rattle.labels.proofs.Answering.{NoneBelow}
 use Rattle.effects.specs.Inner.{BothTables, NewFlow, Affecting}

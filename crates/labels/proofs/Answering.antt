@@ -6,7 +6,7 @@ use native.Mathlib.Decide.{ℕ_discrete, dec_lt}
 use native.Mathlib.Omega.{arith}
 use Rattle.answers.specs.Rows.{Mark, one, none, Bytes}
 use Rattle.answers.proofs.Marks.{mark_agrees, marked_yes, marked_no, marked_unless, marked_other}
-use Rattle.theory.specs.Order.{Equivalent, ClassName, below, GreatestSecrecy, GreatestIntegrity, Greatest}
+use Rattle.theory.specs.Order.{Equivalent, ClassName, GreatestSecrecy, GreatestIntegrity, Greatest}
 use Rattle.labels.specs.Inner.{Asked, FlowsOn}
 use Rattle.labels.proofs.Judged.{byte_marks}
 

@@ -1,5 +1,4 @@
 -- `change::change_refusal` meets its contract: one list, and then the other.
-use borrow.Author.Rules.{rules}
 use Rattle.answers.proofs.Calls.{by_both}
 use Rattle.tables.proofs.Accepted.{sheet_numbered}
 use Rattle.change.specs.Change.{change_refusals}

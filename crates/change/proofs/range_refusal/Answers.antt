@@ -1,5 +1,4 @@
 -- `change::range_refusal` meets its contract: its refusals are those of the list.
-use borrow.Author.Rules.{rules}
 use Rattle.answers.specs.Call.{first_refusal}
 use Rattle.change.specs.Change.{range_refusals}
 use Rattle.change.proofs.range_refusal.Goals as goal

@@ -1,6 +1,5 @@
 -- `change::set_assignment` meets its contract: what is refused, and what is set.
 use mathlib.Core.Path.{sym, ◌∙◌}
-use borrow.Author.Rules.{rules}
 use Rattle.change.proofs.Placed.{assignment_inside, assignment_refused, assignment_set}
 use Rattle.change.proofs.set_assignment.Goals as goal
 

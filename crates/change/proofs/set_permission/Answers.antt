@@ -1,6 +1,5 @@
 -- `change::set_permission` meets its contract: what is refused, and what is set.
 use mathlib.Core.Path.{sym, ◌∙◌}
-use borrow.Author.Rules.{rules}
 use Rattle.change.proofs.Placed.{permission_inside, permission_refused, permission_set}
 use Rattle.change.proofs.set_permission.Goals as goal
 

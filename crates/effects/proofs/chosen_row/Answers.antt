@@ -1,8 +1,6 @@
 -- `effects::chosen_row` meets its contract: a row in range lies within either table, and each return is one of the three answers.
---
 use mathlib.Core.Path.{refl, sym, ◌∙◌}
 use native.Mathlib.Omega.{arith}
-use borrow.Author.Rules.{rules}
 use Rattle.effects.proofs.Chosen.{Fitting, fitting, row_before, row_after, row_none}
 use Rattle.effects.proofs.chosen_row.Goals as goal
 use Rattle.effects.proofs.chosen_row.Goals.{Then-can_choose}

@@ -1,5 +1,4 @@
 -- `effects::effect_refusal` meets its contract: the table before, and then the one after.
-use borrow.Author.Rules.{rules}
 use native.Mathlib.Omega.{arith}
 use Rattle.effects.proofs.Outcomes.{before_refuses, after_decides, after_sized}
 use Rattle.effects.proofs.effect_refusal.Goals as goal

@@ -1,14 +1,10 @@
 -- `effects::fill_effects` meets its contract: the bytes passed are the effects.
 use Prim.Native.Nat.{◌-◌, ◌≤◌}
-use mathlib.Core.Path.{◌≡◌, refl}
-use native.Mathlib.Omega.{arith}
-use borrow.Author.Rules.{rules}
+use mathlib.Core.Path.{◌≡◌}
 use lib.ListN.{length}
 use Rattle.answers.specs.Rows.{Bytes}
-use Rattle.answers.proofs.Written.{Written, written_none, written_more}
+use Rattle.answers.proofs.Written.{Written}
 use Rattle.theory.specs.Effect.{Effect}
-use Rattle.effects.proofs.Affecting.{each_in_both}
-use Rattle.effects.proofs.Outcomes.{effects_done}
 use Rattle.effects.proofs.fill_effects.Given as goal
 
 abbrev pub invariant-loop-x : goal.invariant-loop-x

@@ -1,11 +1,8 @@
 -- `labels::fill_label` meets its contract: the bytes passed are the label's, and `size` counts them.
 use Prim.Native.Nat.{◌-◌, ◌≤◌}
-use mathlib.Core.Path.{◌≡◌, refl}
-use native.Mathlib.Omega.{arith}
-use borrow.Author.Rules.{rules}
+use mathlib.Core.Path.{◌≡◌}
 use lib.ListN.{length}
-use Rattle.answers.proofs.Marks.{mark_bit}
-use Rattle.labels.proofs.Labelling.{LabelTo, label_none, label_more, label_few, label_done}
+use Rattle.labels.proofs.Labelling.{LabelTo}
 use Rattle.labels.proofs.fill_label.Given as goal
 
 abbrev pub invariant-loop-y : goal.invariant-loop-y

@@ -1,9 +1,7 @@
 -- `labels::greatest_integrity` meets its contract: none of the entities passed leaves for x.
 use Prim.Native.Nat.{◌-◌, ◌≤◌}
-use native.Mathlib.Omega.{arith}
-use borrow.Author.Rules.{rules}
 use Rattle.labels.specs.Inner.{FlowsOn}
-use Rattle.labels.proofs.Answering.{NoneBelow, none_yet, none_more, not_integral, integral}
+use Rattle.labels.proofs.Answering.{NoneBelow}
 use Rattle.labels.proofs.greatest_integrity.Given as goal
 
 abbrev pub invariant-loop-y : goal.invariant-loop-y

@@ -1,9 +1,7 @@
 -- `labels::greatest_secrecy` meets its contract: none of the entities passed is one that x leaves for.
 use Prim.Native.Nat.{◌-◌, ◌≤◌}
-use native.Mathlib.Omega.{arith}
-use borrow.Author.Rules.{rules}
 use Rattle.labels.specs.Inner.{FlowsOn}
-use Rattle.labels.proofs.Answering.{NoneBelow, none_yet, none_more, not_secret, secret}
+use Rattle.labels.proofs.Answering.{NoneBelow}
 use Rattle.labels.proofs.greatest_secrecy.Given as goal
 
 abbrev pub invariant-loop-y : goal.invariant-loop-y

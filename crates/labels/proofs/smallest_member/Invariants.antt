@@ -1,10 +1,8 @@
 -- `labels::smallest_member` meets its contract: none of the entities passed is equivalent to x.
 use Prim.Native.Nat.{◌-◌, ◌≤◌}
-use native.Mathlib.Omega.{arith}
-use borrow.Author.Rules.{rules}
 use Rattle.answers.specs.Rows.{Bytes}
 use Rattle.theory.specs.Order.{Equivalent}
-use Rattle.labels.proofs.Answering.{NoneBelow, none_yet, none_more, named_below, named_itself}
+use Rattle.labels.proofs.Answering.{NoneBelow}
 use Rattle.labels.proofs.smallest_member.Given as goal
 
 abbrev pub invariant-loop-z : goal.invariant-loop-z

@@ -1,5 +1,4 @@
 -- `questions::both_asked_refusal` meets its contract: one list, and then the other.
-use borrow.Author.Rules.{rules}
 use Rattle.answers.specs.Call.{first_refusal}
 use Rattle.answers.proofs.Calls.{by_both}
 use Rattle.tables.specs.FlowTable.{pair_asked_refusals}

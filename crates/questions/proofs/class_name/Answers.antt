@@ -1,6 +1,5 @@
 -- `questions::class_name` meets its contract: each return by what its callees answered.
 use mathlib.Core.Path.{sym, ◌∙◌}
-use borrow.Author.Rules.{rules}
 use Rattle.questions.proofs.Asked.{asked_passed}
 use Rattle.questions.proofs.Outcomes.{asked_refused, asked_done}
 use Rattle.questions.proofs.class_name.Goals as goal

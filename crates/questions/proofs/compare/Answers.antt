@@ -1,6 +1,5 @@
 -- `questions::compare` meets its contract: each return by what its callees answered.
 use mathlib.Core.Path.{sym, ◌∙◌}
-use borrow.Author.Rules.{rules}
 use Rattle.questions.proofs.Asked.{both_passed}
 use Rattle.questions.proofs.Outcomes.{compare_refused, compare_done}
 use Rattle.questions.proofs.compare.Goals as goal

@@ -1,5 +1,4 @@
 -- `questions::order` meets its contract: each return by the bytes there and back.
-use borrow.Author.Rules.{rules}
 use Rattle.questions.proofs.Standing.{stand_equal, stand_below, stand_above, stand_apart}
 use Rattle.questions.proofs.order.Goals as goal
 
