@@ -1,2 +1,0 @@
--- The walk of the two forwarders that are lent a tally.
-pub mod Forwarding
