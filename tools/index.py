@@ -2,8 +2,9 @@
 """Checks docs/PROMISES.md against the tree: each name that it cites stands in the crate that it is cited for, each theorem has a line above
 it, or above the record that it fills, that says what it carries, each edit stands in a row, and so does each public function. A public call
 has an `ensures` with the contract that its row cites, no `requires`, and a forwarder in the test face. And each edit says at which fact the
-prover refuses it: that is the first error of its log, which `rt must-fail` or `rt ci` left in target/.
-usage: tools/index.py. Of each fault it prints a line; the last line is 'N passed, M failed', with status 1 where M is not 0."""
+prover refuses it: that is the first error that `rt ci` told of it.
+usage: tools/index.py LOG, where LOG has what `rt ci` printed. Of each fault it prints a line; the last line is 'N passed, M failed', with
+status 1 where M is not 0."""
 import glob
 import os
 import re
@@ -172,24 +173,55 @@ def check_functions(check, tree, found):
             check.hold(public and name + "(" in faces, "%s: is not public, or the test face does not forward it" % name)
 
 
-# ---- edits and their logs
+# ---- edits, and what the prover said of them
 
 
-def fact(log):
-    """What the first error of a log is in: a law by its name, or a need of a function. An error that only follows from another is none."""
-    for place, name, said in re.findall(r"/proofs/(\S+)\.antt:\d+:\d+: error: `([^`]+)`: (.*)", log):
-        if "was not admitted" not in said:
-            return "%s's %s" % (os.path.dirname(place).replace("/", "::"), name) if "/" in place else name
-    unproved = re.search(r"^fn \w+::(\S+): no proof: .*`search` does not close `([^`]+)`", log, re.M)
-    return unproved and "%s's %s" % unproved.groups()
+def enclosing(lines, number):
+    """The function whose text has that line."""
+    heads = [re.match(r' *(?:pub )?(?:const )?(?:extern "C" )?fn (\w+)', line) for line in lines[:number]]
+    return next((head[1] for head in reversed(heads) if head), "?")
 
 
-def check_edits(check, tree, cited_edits):
+def edited(tree, crate, label, path):
+    """The lines of a file of the crate with the edit made."""
+    with open(os.path.join(ROOT, "crates", crate, path), encoding="utf-8") as file:
+        text = file.read()
+    at, old = "", ""
+    for line in tree.edits[crate, label].split("\n"):
+        if line.startswith("file: "):
+            at = line[len("file: "):]
+        elif line.startswith("old: "):
+            old = line[len("old: "):]
+        elif line.startswith("new:") and at == path:
+            text = text.replace(old, line[len("new: "):])
+    return text.split("\n")
+
+
+def fact(tree, crate, label, said):
+    """What the first error is in: a law by its name, or a goal of a function. One that only misses a name that the edit took away is none."""
+    proof = re.search(r"proofs/(\S+)\.antt:\d+:\d+: error: `([^`]+)`: ", said)
+    if proof:
+        place, name = proof.groups()
+        return "%s's %s" % (os.path.dirname(place).replace("/", "::"), name) if "/" in place else name
+    goal = re.search(r"note: (src/\S+\.rt):(\d+):\d+: .*\(`([^`]+)`\)", said)
+    if goal:
+        return "%s's %s" % (enclosing(edited(tree, crate, label, goal[1]), int(goal[2])), goal[3])
+    return None
+
+
+def refusals(log):
+    """What the log of `rt ci` says of each edit that was refused for what it means."""
+    for crate, label, said in re.findall(r"must-fail (\w+)/(\w+)\.edit: refused, as it must be: (.*)", log):
+        yield (crate, label), said
+
+
+def check_edits(check, tree, cited_edits, log):
+    told = dict(refusals(log))
     for (crate, label), text in sorted(tree.edits.items()):
         check.hold((crate, label) in cited_edits, "%s: %s: the edit stands in no row" % (crate, label))
         said = re.match(r"# .*\n# refused at: (.*)\n", text)
-        log = "".join(files("target/must-fail/%s/%s/.log" % (crate, label)).values())
-        check.hold(said and said[1] == fact(log), "%s: %s: refused at %s, and not at %s" % (crate, label, fact(log), said and said[1]))
+        at = fact(tree, crate, label, told.get((crate, label), ""))
+        check.hold(said and said[1] == at, "%s: %s: refused at %s, and not at %s" % (crate, label, at, said and said[1]))
 
 
 def main():
@@ -197,7 +229,8 @@ def main():
     page = files("docs/PROMISES.md")[os.path.join("docs", "PROMISES.md")]
     found = check_rows(check, tree, page)
     check_functions(check, tree, found)
-    check_edits(check, tree, found["edit"])
+    with open(sys.argv[1], encoding="utf-8") as log:
+        check_edits(check, tree, found["edit"], log.read())
     for fault in check.faults:
         print("docs/PROMISES.md: " + fault)
     print("%d passed, %d failed" % (check.passed, len(check.faults)))
