@@ -10,9 +10,6 @@ loop-p-init c = checking_start _ _ c.start_state-k.ensures
 pub returns-then-n-ne0 : goal.returns-then-n-ne0
 returns-then-n-ne0 c = stops _ _ _ c.loop-p.invariant _ c.parse_at-found.ensures _ c.line_fault-n.ensures c.if-n-ne0.true
 
-pub loop-p-smaller : goal.loop-p-smaller
-loop-p-smaller c = omega (arith, c.parse_at-found.ensures.onward, c.parse_at-found.ensures.near)
-
 pub loop-p-preserved : goal.loop-p-preserved
 loop-p-preserved c = checking_next _ _ _ c.loop-p.invariant _ c.parse_at-found.ensures _ c.state_after_line-k.ensures (sym c.line_fault-n.ensures ∙ c.if-n-ne0.false)
 

@@ -12,9 +12,6 @@ returns-then-line-eq0 c = parse_empty _ _ c.if-line-eq0.true
 pub returns-then-not-digit_pairs : goal.returns-then-not-digit_pairs
 returns-then-not-digit_pairs c = parse_unpaired _ _ (sym c.digit_pairs.ensures ∙ c.if-not-digit_pairs.true)
 
-pub frame_of-requires : goal.frame_of-requires
-frame_of-requires c = sym c.digit_pairs.ensures ∙ c.if-not-digit_pairs.false
-
 pub returns : goal.returns
 returns c =
     c.frame_of.ensures

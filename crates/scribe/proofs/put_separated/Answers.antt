@@ -1,7 +1,5 @@
 -- `scribe::put_separated` meets its contract: the lines of the separations before number i are written.
-use mathlib.Core.Path.{◌≡◌}
 use native.Mathlib.Omega.{arith}
-use Rattle.scribe.proofs.PutLaws.{puts_long}
 use Rattle.scribe.proofs.TableLaws.{pairs_start, pairs_room, pairs_next}
 use Rattle.scribe.proofs.put_separated.Goals as goal
 
@@ -13,11 +11,3 @@ put_frame-pen-requires c = pairs_room _ _ _ c.loop-i.i c.loop-i.invariant.1 c.ar
 
 pub loop-i-preserved : goal.loop-i-preserved
 loop-i-preserved c = (omega arith, pairs_next _ _ _ c.loop-i.i c.loop-i.invariant.1 (omega arith) c.put_frame-pen.ensures)
-
-pub shape_of-text : goal.shape_of-text
-shape_of-text c = puts_long c.loop-i.invariant.1
-
-pub returns : goal.returns
-returns c =
-    let e : c.loop-i.i ≡ c.args.count = omega arith in
-    rw e at c.loop-i.invariant.1

@@ -1,22 +1,13 @@
 -- `scribe::put_table` meets its contract: the lines of the bytes before place i are written.
 use Prim.Native.Nat.{◌*◌}
-use mathlib.Core.Path.{◌≡◌}
 use native.Mathlib.Nat.{mul-le-mul_right}
 use native.Mathlib.Omega.{arith}
-use Rattle.answers.proofs.Products.{product_fits}
 use Rattle.scribe.specs.Put.{frame_at}
-use Rattle.scribe.proofs.PutLaws.{puts_long}
 use Rattle.scribe.proofs.TableLaws.{table_start, table_room, table_next}
 use Rattle.scribe.proofs.put_table.Goals as goal
 
-pub overflow_mul-used : goal.overflow_mul-used
-overflow_mul-used c = product_fits _ _ 64 64 c.requires.table.rows_fit c.requires.table.width_fits tt
-
 pub loop-i-init : goal.loop-i-init
 loop-i-init c = (omega arith, table_start (frame_at _ _) c.args.table.now _ _)
-
-pub bounds-table-i : goal.bounds-table-i
-bounds-table-i c = omega (arith, c.requires.table.used)
 
 pub put_cell-pen-requires : goal.put_cell-pen-requires
 put_cell-pen-requires c =
@@ -31,11 +22,3 @@ loop-i-preserved c = (
   omega arith,
   table_next (frame_at _ _) _ _ _ c.loop-i.i c.loop-i.invariant.1 (omega (arith, c.requires.table.used)) c.put_cell-pen.ensures,
 )
-
-pub shape_of-text : goal.shape_of-text
-shape_of-text c = puts_long c.loop-i.invariant.1
-
-pub returns : goal.returns
-returns c =
-    let e : c.loop-i.i ≡ c.args.rows * c.args.width = omega arith in
-    rw e at c.loop-i.invariant.1

@@ -1,13 +1,7 @@
 -- `scribe::write_tables` meets its contract: part after part, there is room for the next, and in the end the text is whole.
-use native.Mathlib.Omega.{arith}
 use Rattle.scribe.specs.Put.{frame_at}
 use Rattle.scribe.proofs.SheetLaws.{assignment_table, permission_table, separations_room, room_assigned, room_permitted, room_separated, room_end, all_written}
 use Rattle.scribe.proofs.write_tables.Goals as goal
-
-pub put_header-header-requires : goal.put_header-header-requires
-put_header-header-requires c =
-    let s = c.requires.sized in
-    omega (arith, s.counts_fit.subjects, s.counts_fit.objects, s.counts_fit.roles, c.requires.text_long)
 
 pub put_table-assigned-requires : goal.put_table-assigned-requires
 unfolding frame_at

@@ -1,8 +1,6 @@
 -- `sheet::refused_line` meets its contract, by those of the line's two places.
-use mathlib.Core.Path.{refl}
 use native.Mathlib.Omega.{arith}
 use Rattle.lines.proofs.Places.{start_first, end_within}
-use Rattle.sheet.proofs.Placed.{same_part}
 use Rattle.sheet.proofs.refused_line.Goals as goal
 
 pub slice_bounds-result-count : goal.slice_bounds-result-count
@@ -13,11 +11,3 @@ slice_bounds-result-start c = omega (arith, start_first c.args.text.now c.args.l
 
 pub slice_bounds-result-end : goal.slice_bounds-result-end
 slice_bounds-result-end c = omega (arith, end_within c.args.text.now c.args.line)
-
-pub returns : goal.returns
-returns c =
-    record {
-      bytes = same_part c.args.text.now c.line_start-start.ensures c.line_end-end.ensures;
-      block = refl;
-      place = omega arith;
-    }
