@@ -1,8 +1,9 @@
 -- The lines of a table, byte by byte, and those of separations, pair by pair.
-use Prim.Native.Nat.{ℕ, zero, suc, ◌+◌, ◌*◌, ◌-◌, ◌≤◌, ◌<◌}
+use Prim.Native.Nat.{ℕ, zero, suc, ◌+◌, ◌*◌, ◌-◌, ◌/◌, ◌%◌, ◌≤◌, ◌<◌}
 use mathlib.Core.Path.{◌≡◌, ap, refl, sym, ◌∙◌}
+use mathlib.Core.Logic.{⊎_elim}
 use mathlib.Core.List.{List, [], ◌∷◌, ◌++◌}
-use native.Mathlib.Nat.{add-zero, suc-add, add-suc, zero-add}
+use native.Mathlib.Nat.{add-zero, suc-add, add-suc, zero-add, eq-zero-or-pos, div-lt_iff_lt-mul, mod-lt}
 use native.Mathlib.Numerals.{add-one}
 use native.Mathlib.Omega.{arith}
 use lib.ListN.{length, get_or, take, drop}
@@ -11,8 +12,15 @@ use Rattle.frames.specs.declared.Frame.{Frame}
 use Rattle.frames.specs.declared.Frame.TheVariants.{Separate}
 use Rattle.text.specs.Content.{present, separates}
 use Rattle.scribe.specs.declared.Pen.{Pen}
-use Rattle.scribe.specs.Put.{Puts, Room, shown}
+use Rattle.scribe.specs.Put.{Puts, Room, shown, InRows}
 use Rattle.scribe.proofs.PutLaws.{puts_none, puts_then, room_then, room_first}
+
+-- ---- the row and the column of a place are bytes
+pub row_byte : (width i : ℕ) → InRows width i → (i / width < 64) × (i % width < 64)
+row_byte width i r = ((div-lt_iff_lt-mul some).1 r.within, omega (arith, mod-lt i some, r.narrow))
+  where
+    some : 0 < width
+    some = ⊎_elim (λ (e : width ≡ 0). absurd (omega (arith, r.within))) (λ (h : 0 < width). h) (eq-zero-or-pos width)
 
 -- ---- the frame of one byte
 pub shown_none : (v : ℕ) (f : Frame) → v ≡ 0 → shown v f ≡ []

@@ -7,3 +7,4 @@ pub mod ReadDone
 pub mod Calls
 pub mod ReadReturns
 pub mod Instances
+pub mod Placed
