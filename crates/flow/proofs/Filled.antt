@@ -4,7 +4,7 @@ use mathlib.Core.List.{List}
 use Rattle.answers.specs.Rows.{Bytes}
 use Rattle.tables.specs.Sheet.{Sheet, entities}
 use Rattle.theory.specs.Flow.{Flow, here}
-use Rattle.theory.specs.Order.{Included, ClassName}
+use Rattle.theory.specs.Order.{Included}
 use Rattle.theory.specs.Effect.{Effect}
 use Rattle.theory.specs.Laws.{Agree, EqualAnswers, OneClass}
 use Rattle.theory.proofs.Filled.{bytes_agree}

@@ -17,7 +17,7 @@ use Rattle.theory.specs.Chain.{Best}
 use Rattle.rows.specs.Written.{FlowTable}
 use Rattle.access.specs.Channel.{Channel}
 use Rattle.separations.specs.declared.Judged.{Judged}
-use Rattle.separations.specs.Judgement.{Broken, AllHold, judged, broken, Finding}
+use Rattle.separations.specs.Judgement.{Broken, AllHold, judged, Finding}
 use Rattle.verdict.specs.Chain.{chain_refusals, Shows}
 use Rattle.verdict.specs.Judge.{judge_refusals, Judges}
 use Rattle.separations.proofs.Verdicts.{one_first}

@@ -10,7 +10,7 @@ use lib.Dec.{leb}
 use mir.Syntax.{w64}
 use mir.Val.{Fits}
 use Rattle.answers.specs.declared.Told.{Told}
-use Rattle.answers.specs.Call.{Refusal, ◌then◌, first_refusal, told}
+use Rattle.answers.specs.Call.{Refusal, first_refusal, told}
 use Rattle.answers.specs.Rows.{Bytes, Filled, shorter}
 use Rattle.answers.specs.Sizes.{least_chain}
 use Rattle.tables.specs.Sheet.{Lent, sheet_in, entities}

@@ -1,13 +1,11 @@
 -- `chains::measure` meets its contract. The rounds go on while one sets a byte.
 use Prim.Native.Nat.{◌+◌}
-use mathlib.Core.Path.{◌≡◌, ap, ◌∙◌}
-use native.Mathlib.Omega.{arith}
-use lib.ListN.{length, length-set, length-replicate}
+use mathlib.Core.Path.{◌≡◌}
+use lib.ListN.{length}
 use Rattle.answers.specs.Sizes.{most_entities}
 use Rattle.answers.specs.Rows.{Bytes, count}
 use Rattle.chains.specs.Distance.{far}
-use Rattle.theory.proofs.Filled.{bytes_inside}
-use Rattle.chains.proofs.Measures.{Phase, phase_first, phase_low, phase_next, phase_final}
+use Rattle.chains.proofs.Measures.{Phase}
 use Rattle.chains.proofs.measure.Given as goal
 
 abbrev pub invariant-loop-fresh : goal.invariant-loop-fresh

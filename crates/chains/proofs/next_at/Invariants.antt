@@ -1,12 +1,9 @@
 -- `chains::next_at` meets its contract. No entity before w that comes before what is found is one that is looked for.
-use Prim.Native.Nat.{◌+◌, ◌*◌, ◌-◌, ◌≤◌}
+use Prim.Native.Nat.{◌-◌}
 use mathlib.Core.Path.{◌≡◌}
-use mathlib.Core.Logic.{⊎_elim}
-use native.Mathlib.Omega.{arith}
-use lib.ListN.{length, get_or}
+use lib.ListN.{get_or}
 use Rattle.answers.specs.Rows.{Bytes}
-use Rattle.answers.proofs.Tables.{row_within}
-use Rattle.chains.proofs.Scans.{Scanned, scan_none, scan_found, scan_pass, scan_all}
+use Rattle.chains.proofs.Scans.{Scanned}
 use Rattle.chains.proofs.next_at.Given as goal
 
 abbrev pub invariant-loop-w : goal.invariant-loop-w

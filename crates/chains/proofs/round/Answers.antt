@@ -1,18 +1,12 @@
 -- `chains::round` meets its contract. What has a channel to an entity below w that is at r is settled.
-use Prim.Native.Nat.{◌-◌, ◌≤◌}
-use mathlib.Core.Path.{◌≡◌, refl, ap, ◌∙◌}
-use mathlib.Core.Logic.{⊎_elim}
+use mathlib.Core.Path.{ap, ◌∙◌}
 use native.Mathlib.Omega.{arith}
 use lib.ListN.{length}
-use Rattle.answers.specs.Rows.{Bytes}
-use Rattle.chains.specs.Distance.{far, Round}
+use Rattle.chains.specs.Distance.{far}
 use Rattle.chains.proofs.Counts.{count_fits}
-use Rattle.chains.proofs.Rounds.{round_none, round_pass, round_more}
+use Rattle.chains.proofs.Rounds.{round_pass, round_more}
 use Rattle.chains.proofs.round.Goals as goal
 use Rattle.chains.proofs.round.Goals.{else-dist-w, then-dist-w}
-
-pub loop-w-init : goal.loop-w-init
-loop-w-init c = (omega arith, refl, round_none _ _ _ _)
 
 pub overflow_add-fresh : goal.overflow_add-fresh
 overflow_add-fresh c =
@@ -30,11 +24,3 @@ loop-w-preserved c =
       )
       | else-dist-w w ↦ (omega arith, ap length w.dist-is ∙ c.loop-w.invariant.1, rw (w.dist-is, w.fresh-is) (round_pass (omega arith) s (λ e. omega arith)))
     ]
-
-pub shape_of-dist : goal.shape_of-dist
-shape_of-dist c = c.loop-w.invariant.1
-
-pub returns : goal.returns
-returns c =
-    let e : c.loop-w.w ≡ c.args.n = omega arith in
-    rw e at c.loop-w.invariant.2

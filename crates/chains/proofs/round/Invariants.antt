@@ -1,13 +1,9 @@
 -- `chains::round` meets its contract. What has a channel to an entity below w that is at r is settled.
 use Prim.Native.Nat.{◌-◌, ◌≤◌}
-use mathlib.Core.Path.{◌≡◌, refl, ap, ◌∙◌}
-use mathlib.Core.Logic.{⊎_elim}
-use native.Mathlib.Omega.{arith}
+use mathlib.Core.Path.{◌≡◌}
 use lib.ListN.{length}
 use Rattle.answers.specs.Rows.{Bytes}
-use Rattle.chains.specs.Distance.{far, Round}
-use Rattle.chains.proofs.Counts.{count_fits}
-use Rattle.chains.proofs.Rounds.{round_none, round_pass, round_more}
+use Rattle.chains.specs.Distance.{Round}
 use Rattle.chains.proofs.round.Given as goal
 
 abbrev pub invariant-loop-w : goal.invariant-loop-w

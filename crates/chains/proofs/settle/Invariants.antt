@@ -1,13 +1,9 @@
 -- `chains::settle` meets its contract. The entities below v have been looked at.
-use Prim.Native.Nat.{◌+◌, ◌*◌, ◌-◌, ◌≤◌}
-use mathlib.Core.Path.{◌≡◌, refl, ap, ◌∙◌}
-use mathlib.Core.Logic.{⊎_elim}
-use native.Mathlib.Omega.{arith}
-use lib.ListN.{length, length-set}
+use Prim.Native.Nat.{◌-◌, ◌≤◌}
+use mathlib.Core.Path.{◌≡◌}
+use lib.ListN.{length}
 use Rattle.answers.specs.Rows.{Bytes}
-use Rattle.answers.proofs.Tables.{row_within}
 use Rattle.chains.specs.Distance.{Settled}
-use Rattle.chains.proofs.Rounds.{settled_none, settled_pass, settled_set}
 use Rattle.chains.proofs.settle.Given as goal
 
 abbrev pub invariant-loop-v : goal.invariant-loop-v

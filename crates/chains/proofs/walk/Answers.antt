@@ -1,11 +1,9 @@
 -- `chains::walk` meets its contract. A chain from `at` on, behind what is written, makes the chain from x.
-use Prim.Native.Nat.{◌<◌, ◌+◌}
-use mathlib.Core.Path.{◌≡◌, refl}
+use Prim.Native.Nat.{◌<◌}
 use native.Mathlib.Omega.{arith}
-use lib.ListN.{length, get_or, length-set}
-use Rattle.answers.specs.Rows.{Bytes}
+use lib.ListN.{get_or, length-set}
 use Rattle.theory.proofs.Filled.{bytes_inside}
-use Rattle.chains.proofs.Walks.{away, walk_within, walk_link, Walking, walking_first, walking_next, walking_last}
+use Rattle.chains.proofs.Walks.{away, walk_within, walk_link, walking_next, walking_last}
 use Rattle.chains.proofs.walk.Goals as goal
 use Rattle.chains.proofs.walk.Goals.{In-loop-at, After-next_at-at}
 
@@ -18,9 +16,6 @@ ahead c =
 found : (c : After-next_at-at) → 0 < get_or c.args.dist.now c.loop-at.at 0 → c.next_at-at.result < c.args.n
 found c more =
     walk_within (bytes_inside _ _) c.requires.distances c.loop-at.invariant.0 (omega arith) (omega arith) c.next_at-at.ensures
-
-pub loop-at-init : goal.loop-at-init
-loop-at-init c = (omega arith, omega arith, refl, walking_first _ _ _ _)
 
 pub overflow_sub-d : goal.overflow_sub-d
 overflow_sub-d c = ahead (goal.at.overflow_sub-d c).In-loop-at
@@ -37,9 +32,6 @@ loop-at-preserved c = (
       (walk_link (bytes_inside _ _) c.requires.distances c.loop-at.invariant.0 (omega arith) (omega (arith, ahead (goal.at.loop-at-preserved c).In-loop-at))
       c.next_at-at.ensures),
 )
-
-pub shape_of-chain : goal.shape_of-chain
-shape_of-chain c = simp length-set c.loop-at.invariant.2
 
 pub returns : goal.returns
 returns c = walking_last c.loop-at.invariant.3 (omega arith) (omega arith)

@@ -1,11 +1,9 @@
 -- `chains::walk` meets its contract. A chain from `at` on, behind what is written, makes the chain from x.
 use Prim.Native.Nat.{◌<◌, ◌+◌}
-use mathlib.Core.Path.{◌≡◌, refl}
-use native.Mathlib.Omega.{arith}
-use lib.ListN.{length, get_or, length-set}
+use mathlib.Core.Path.{◌≡◌}
+use lib.ListN.{length, get_or}
 use Rattle.answers.specs.Rows.{Bytes}
-use Rattle.theory.proofs.Filled.{bytes_inside}
-use Rattle.chains.proofs.Walks.{away, walk_within, walk_link, Walking, walking_first, walking_next, walking_last}
+use Rattle.chains.proofs.Walks.{Walking}
 use Rattle.chains.proofs.walk.Given as goal
 
 abbrev pub invariant-loop-at : goal.invariant-loop-at

@@ -1,28 +1,17 @@
 -- `channels::fill_row` meets its contract. After y turns the first y bytes are right.
-use Prim.Native.Nat.{◌≤◌, ◌<◌, ◌-◌}
-use mathlib.Core.Path.{◌≡◌, refl, ◌∙◌}
+use Prim.Native.Nat.{◌<◌}
+use mathlib.Core.Path.{◌≡◌, ◌∙◌}
 use native.Mathlib.Omega.{arith}
 use lib.ListN.{length, length-set}
-use Rattle.answers.specs.Rows.{Mark}
 use Rattle.tables.specs.Sheet.{entities}
-use Rattle.answers.proofs.FilledBytes.{FilledBytes, no_bytes, one_byte_more, bytes_row}
-use Rattle.channels.specs.Inner.{ListChannel}
+use Rattle.answers.proofs.FilledBytes.{one_byte_more, bytes_row}
 use Rattle.channels.proofs.fill_row.Goals as goal
-
-pub loop-y-init : goal.loop-y-init
-loop-y-init c = (omega arith, refl, no_bytes _ _)
-
-pub channel_at-requires : goal.channel_at-requires
-channel_at-requires c = (c.requires.0, omega arith, omega arith)
 
 pub loop-y-preserved : goal.loop-y-preserved
 loop-y-preserved c =
     let turn = c.loop-y in
     let inside : turn.y < length turn.row = omega arith in
     (omega arith, simp length-set turn.invariant.1, one_byte_more turn.invariant.2 inside c.channel_at.ensures)
-
-pub shape_of-row : goal.shape_of-row
-shape_of-row c = c.loop-y.invariant.1
 
 pub returns : goal.returns
 returns c =

@@ -1,11 +1,9 @@
 -- `channels::fill_row` meets its contract. After y turns the first y bytes are right.
-use Prim.Native.Nat.{◌≤◌, ◌<◌, ◌-◌}
-use mathlib.Core.Path.{◌≡◌, refl, ◌∙◌}
-use native.Mathlib.Omega.{arith}
-use lib.ListN.{length, length-set}
+use Prim.Native.Nat.{◌≤◌, ◌-◌}
+use mathlib.Core.Path.{◌≡◌}
+use lib.ListN.{length}
 use Rattle.answers.specs.Rows.{Mark}
-use Rattle.tables.specs.Sheet.{entities}
-use Rattle.answers.proofs.FilledBytes.{FilledBytes, no_bytes, one_byte_more, bytes_row}
+use Rattle.answers.proofs.FilledBytes.{FilledBytes}
 use Rattle.channels.specs.Inner.{ListChannel}
 use Rattle.channels.proofs.fill_row.Given as goal
 

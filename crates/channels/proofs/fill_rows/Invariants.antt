@@ -1,13 +1,9 @@
 -- `channels::fill_rows` meets its contract. After x turns the first x rows are right.
-use Prim.Native.Nat.{ℕ, ◌+◌, ◌*◌, ◌≤◌, ◌-◌}
-use mathlib.Core.Path.{◌≡◌, refl, ◌∙◌}
-use native.Mathlib.Omega.{arith}
-use borrow.Rule.Slice.PartMut.{mid_len}
-use lib.ListN.{length, take, drop}
+use Prim.Native.Nat.{◌≤◌, ◌-◌}
+use mathlib.Core.Path.{◌≡◌}
+use lib.ListN.{length}
 use Rattle.answers.specs.Rows.{Mark}
-use Rattle.tables.specs.Sheet.{entities}
-use Rattle.answers.proofs.Products.{product_within}
-use Rattle.answers.proofs.Tables.{row_within, FilledRows, no_rows, one_row_more, rows_marked}
+use Rattle.answers.proofs.Tables.{FilledRows}
 use Rattle.channels.specs.Inner.{ListChannel}
 use Rattle.channels.proofs.fill_rows.Given as goal
 

@@ -1,17 +1,10 @@
 -- `channels::gather` meets its contract. After a turn for each role below `role` the list has those of them that the subject has.
-use Prim.Native.Nat.{◌≤◌, ◌<◌, ◌-◌}
-use mathlib.Core.Path.{◌≡◌, refl}
-use mathlib.Core.Logic.{⊎_elim}
+use Prim.Native.Nat.{◌<◌}
 use native.Mathlib.Omega.{arith}
 use lib.ListN.{length, length-set}
-use Rattle.answers.specs.Rows.{at}
-use Rattle.channels.specs.Inner.{RolesOf}
-use Rattle.channels.proofs.Gathering.{none_yet, not_this, stored}
+use Rattle.channels.proofs.Gathering.{not_this, stored}
 use Rattle.channels.proofs.gather.Goals as goal
 use Rattle.channels.proofs.gather.Goals.{else-assignment-base-eq-ASSIGNED, then-assignment-base-eq-ASSIGNED}
-
-pub loop-role-init : goal.loop-role-init
-loop-role-init c = (omega arith, refl, none_yet _ _)
 
 pub loop-role-preserved : goal.loop-role-preserved
 loop-role-preserved c =
@@ -26,11 +19,3 @@ loop-role-preserved c =
       | else-assignment-base-eq-ASSIGNED w ↦
           (omega arith, rw w.list-is turn.invariant.1, rw (w.list-is, w.count-is) (not_this turn.invariant.2 w.if-assignment-base-eq-ASSIGNED.false))
     ]
-
-pub shape_of-list : goal.shape_of-list
-shape_of-list c = c.loop-role.invariant.1
-
-pub returns : goal.returns
-returns c =
-    let e : c.loop-role.role ≡ c.args.roles = omega arith in
-    rw e at c.loop-role.invariant.2

@@ -1,12 +1,8 @@
 -- `channels::gather` meets its contract. After a turn for each role below `role` the list has those of them that the subject has.
-use Prim.Native.Nat.{◌≤◌, ◌<◌, ◌-◌}
-use mathlib.Core.Path.{◌≡◌, refl}
-use mathlib.Core.Logic.{⊎_elim}
-use native.Mathlib.Omega.{arith}
-use lib.ListN.{length, length-set}
-use Rattle.answers.specs.Rows.{at}
+use Prim.Native.Nat.{◌≤◌, ◌-◌}
+use mathlib.Core.Path.{◌≡◌}
+use lib.ListN.{length}
 use Rattle.channels.specs.Inner.{RolesOf}
-use Rattle.channels.proofs.Gathering.{none_yet, not_this, stored}
 use Rattle.channels.proofs.gather.Given as goal
 
 abbrev pub invariant-loop-role : goal.invariant-loop-role

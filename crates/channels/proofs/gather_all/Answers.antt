@@ -1,12 +1,10 @@
 -- `channels::gather_all` meets its contract. After s turns each subject below s has its list.
 use Prim.Native.Nat.{◌+◌, ◌*◌, ◌≤◌, ◌<◌, ◌-◌}
-use mathlib.Core.Path.{◌≡◌, refl, ◌∙◌}
+use mathlib.Core.Path.{◌≡◌, ◌∙◌}
 use native.Mathlib.Omega.{arith}
 use borrow.Rule.Slice.PartMut.{mid_len}
 use lib.ListN.{length, take, drop, length-set}
-use Rattle.answers.proofs.Tables.{row_within}
-use Rattle.channels.specs.Inner.{Lists}
-use Rattle.channels.proofs.Gathering.{no_lists, one_list_more}
+use Rattle.channels.proofs.Gathering.{one_list_more}
 use Rattle.channels.proofs.gather_all.Goals as goal
 use Rattle.channels.proofs.gather_all.Goals.{In-loop-s}
 
@@ -18,15 +16,6 @@ lent-long c =
     let start = c.loop-s.s * 48 in
     mid_len start (start + 48) c.loop-s.lists (omega arith)
 
-pub loop-s-init : goal.loop-s-init
-loop-s-init c = (omega arith, refl, refl, no_lists _ _ _ _)
-
-pub gather-requires : goal.gather-requires
-gather-requires c =
-    let a = c.args in
-    let row = row_within c.loop-s.s a.subjects a.roles (length a.assignment.now) c.loop-s-test.true c.requires.table in
-    (omega arith, omega (arith, row), lent-long (goal.at.gather-requires c).In-loop-s ∙ omega arith)
-
 pub loop-s-preserved : goal.loop-s-preserved
 loop-s-preserved c =
     let inv = c.loop-s.invariant in
@@ -35,18 +24,7 @@ loop-s-preserved c =
     let within : s * 48 + 48 ≤ length c.loop-s.lists = omega arith in
     let long : length c.gather.new.list ≡ 48 = c.gather.auto.list ∙ lent-long (goal.at.loop-s-preserved c).In-loop-s ∙ omega arith in (
       omega arith,
-      c.lists-1.given.1 ∙ inv.1,
+      omega arith,
       simp length-set inv.2,
       one_list_more c.args.roles c.args.assignment.now s c.loop-s.lists c.loop-s.used c.gather.result c.gather.new.list (omega arith) inside within long inv.3 c.gather.ensures,
     )
-
-pub shape_of-lists : goal.shape_of-lists
-shape_of-lists c = c.loop-s.invariant.1
-
-pub shape_of-used : goal.shape_of-used
-shape_of-used c = c.loop-s.invariant.2
-
-pub returns : goal.returns
-returns c =
-    let e : c.loop-s.s ≡ c.args.subjects = omega arith in
-    rw e at c.loop-s.invariant.3

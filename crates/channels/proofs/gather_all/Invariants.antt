@@ -1,12 +1,8 @@
 -- `channels::gather_all` meets its contract. After s turns each subject below s has its list.
-use Prim.Native.Nat.{◌+◌, ◌*◌, ◌≤◌, ◌<◌, ◌-◌}
-use mathlib.Core.Path.{◌≡◌, refl, ◌∙◌}
-use native.Mathlib.Omega.{arith}
-use borrow.Rule.Slice.PartMut.{mid_len}
-use lib.ListN.{length, take, drop, length-set}
-use Rattle.answers.proofs.Tables.{row_within}
+use Prim.Native.Nat.{◌≤◌, ◌-◌}
+use mathlib.Core.Path.{◌≡◌}
+use lib.ListN.{length}
 use Rattle.channels.specs.Inner.{Lists}
-use Rattle.channels.proofs.Gathering.{no_lists, one_list_more}
 use Rattle.channels.proofs.gather_all.Given as goal
 
 abbrev pub invariant-loop-s : goal.invariant-loop-s

@@ -1,6 +1,5 @@
 -- `flow::fill` meets its contract: each return by what its callees answered.
 use mathlib.Core.Path.{sym, ◌∙◌}
-use borrow.Author.Rules.{rules}
 use Rattle.flow.proofs.Closing.{fillable, fill_refused, fill_done}
 use Rattle.flow.proofs.fill.Goals as goal
 

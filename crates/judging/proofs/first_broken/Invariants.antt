@@ -1,14 +1,10 @@
 -- `judging::first_broken` meets its contract. The buffer holds the row of the entity that `held` says, and of the separations before
 -- i none before what is found is broken.
-use Prim.Native.Nat.{◌-◌, ◌<◌}
-use mathlib.Core.Logic.{⊎_elim}
-use native.Mathlib.Omega.{arith}
+use Prim.Native.Nat.{◌-◌}
 use Rattle.answers.specs.Rows.{Bytes}
-use Rattle.answers.proofs.Marks.{marked_yes, mark_of}
-use Rattle.chains.proofs.Scans.{Scanned, scan_found, scan_pass, scan_all}
+use Rattle.chains.proofs.Scans.{Scanned}
 use Rattle.separations.specs.Judgement.{Broken}
 use Rattle.judging.specs.Inner.{HeldRow}
-use Rattle.judging.proofs.Searching.{held_none, held_row, byte_marks}
 use Rattle.judging.proofs.first_broken.Given as goal
 
 abbrev pub invariant-loop-i : goal.invariant-loop-i

@@ -1,11 +1,7 @@
 -- `rows::arrange` meets its contract. After k turns each entity below k stands at its own place.
 use Prim.Native.Nat.{ℕ, ◌-◌, ◌≤◌, ◌<◌}
-use mathlib.Core.Path.{◌≡◌, refl, ◌∙◌}
-use native.Mathlib.Omega.{arith}
-use lib.ListN.{length, get_or, set, length-set}
-use lib.Seq.{get_or-set_same, get_or-set_other}
-use borrow.Author.Count.{below_none, below_more}
-use Rattle.rows.proofs.Spreads.{begun_first}
+use mathlib.Core.Path.{◌≡◌}
+use lib.ListN.{length, get_or}
 use Rattle.rows.proofs.arrange.Given as goal
 
 abbrev pub invariant-loop-k : goal.invariant-loop-k

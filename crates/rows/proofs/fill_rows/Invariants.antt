@@ -1,11 +1,9 @@
 -- `rows::fill_rows` meets its contract. After x turns the rows below x are filled.
-use Prim.Native.Nat.{◌≤◌, ◌+◌, ◌-◌, ◌*◌}
-use mathlib.Core.Path.{◌≡◌, refl, ◌∙◌}
-use native.Mathlib.Omega.{arith}
-use lib.ListN.{length, take, drop}
-use borrow.Rule.Slice.PartMut.{mid_len}
+use Prim.Native.Nat.{◌≤◌, ◌-◌}
+use mathlib.Core.Path.{◌≡◌}
+use lib.ListN.{length}
 use Rattle.answers.specs.Rows.{Mark, Bytes}
-use Rattle.answers.proofs.Tables.{row_within, FilledRows, no_rows, one_row_more, rows_marked}
+use Rattle.answers.proofs.Tables.{FilledRows}
 use Rattle.theory.specs.Flow.{Flow}
 use Rattle.rows.proofs.fill_rows.Given as goal
 

@@ -1,10 +1,6 @@
 -- `rows::mark` meets its contract. After k turns the bytes mark those before k.
-use Prim.Native.Nat.{◌-◌, ◌≤◌, ◌<◌}
-use mathlib.Core.Path.{◌≡◌, ap, ◌∙◌}
-use native.Mathlib.Omega.{arith}
-use lib.ListN.{length, get_or, length-replicate}
+use Prim.Native.Nat.{◌-◌, ◌≤◌}
 use Rattle.rows.specs.Search.{MarksBefore}
-use Rattle.rows.proofs.Marks.{marks_none, marks_more}
 use Rattle.rows.proofs.mark.Given as goal
 
 abbrev pub invariant-loop-k : goal.invariant-loop-k

@@ -1,11 +1,9 @@
 -- `rows::reach` meets its contract. Between two spreads the search goes on.
 use Prim.Native.Nat.{◌-◌}
-use mathlib.Core.Path.{◌≡◌, refl, ◌∙◌}
-use native.Mathlib.Omega.{arith}
+use mathlib.Core.Path.{◌≡◌}
 use lib.ListN.{length}
 use Rattle.answers.specs.Rows.{Bytes}
-use Rattle.theory.proofs.Filled.{bytes_inside}
-use Rattle.rows.proofs.Searches.{Searching, searching_first, searching_next, searching_done}
+use Rattle.rows.proofs.Searches.{Searching}
 use Rattle.rows.proofs.reach.Given as goal
 
 abbrev pub invariant-loop-head : goal.invariant-loop-head

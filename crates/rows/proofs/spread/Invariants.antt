@@ -1,13 +1,9 @@
 -- `rows::spread` meets its contract. The entities before k have been looked at.
-use Prim.Native.Nat.{◌+◌, ◌*◌, ◌-◌, ◌≤◌, ◌<◌}
-use mathlib.Core.Path.{◌≡◌, refl, ap, ◌∙◌}
-use mathlib.Core.Logic.{⊎_elim}
-use native.Mathlib.Omega.{arith}
-use lib.ListN.{length, get_or, length-set}
+use Prim.Native.Nat.{◌-◌, ◌≤◌}
+use mathlib.Core.Path.{◌≡◌}
+use lib.ListN.{length}
 use Rattle.answers.specs.Rows.{Bytes}
-use Rattle.answers.proofs.Tables.{row_within}
 use Rattle.rows.specs.Search.{Spread}
-use Rattle.rows.proofs.Spreads.{spread_none, spread_pass, spread_take}
 use Rattle.rows.proofs.spread.Given as goal
 
 abbrev pub invariant-loop-k : goal.invariant-loop-k

@@ -1,6 +1,5 @@
 -- `sievemarl::pack` meets its contract: a position and a chain count that are small leave the number within 32 bits.
 use native.Mathlib.Omega.{arith}
-use borrow.Author.Rules.{rules}
 use Rattle.sievemarl.specs.Packed.{packed}
 use Rattle.sievemarl.proofs.pack.Goals as goal
 

@@ -1,6 +1,5 @@
 -- `sievemarl::sievemarl_judge` meets its contract: what `judge` answers is small, so that one number holds it.
 use native.Mathlib.Omega.{arith}
-use borrow.Author.Rules.{rules}
 use Rattle.verdict.proofs.Bounds.{judged_small}
 use Rattle.sievemarl.proofs.sievemarl_judge.Goals as goal
 

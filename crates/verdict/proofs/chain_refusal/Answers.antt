@@ -1,6 +1,5 @@
 -- `verdict::chain_refusal` meets its contract: the tables, and then the entities.
 use mathlib.Core.Path.{sym, ◌∙◌}
-use borrow.Author.Rules.{rules}
 use Rattle.verdict.proofs.Showing.{sum_fits, by_tables, by_entities}
 use Rattle.verdict.proofs.chain_refusal.Goals as goal
 

@@ -1,8 +1,7 @@
 -- `verdict::judge_refusal` meets its contract: each return by the refusals that led there.
 use mathlib.Core.Path.{◌≡◌, sym, ◌∙◌}
-use borrow.Author.Rules.{rules}
 use Rattle.answers.specs.Call.{first_refusal}
-use Rattle.tables.specs.Sheet.{Lent, lent}
+use Rattle.tables.specs.Sheet.{lent}
 use Rattle.verdict.proofs.Showing.{sum_fits}
 use Rattle.verdict.proofs.Judging.{tables, by_tables, by_pairs, both_long}
 use Rattle.verdict.proofs.judge_refusal.Goals as goal
