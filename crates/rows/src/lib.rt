@@ -33,7 +33,8 @@ fn spread(channels: &[u8], n: usize, u: usize, tail: usize, order: &mut [usize])
     let mut k = tail;
     while k < n {
         let y = order[k];
-        if channels[base + y] == 1 {
+        let is_channel = channels[base + y] == 1;
+        if is_channel {
             order[k] = order[end];
             order[end] = y;
             end += 1;
