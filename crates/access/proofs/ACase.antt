@@ -1,7 +1,7 @@
 -- A sheet with two subjects, two objects and three roles. Subject 0 has role 0, which reads object 0, and role 1, which writes
 -- object 1; nobody has role 2, which has both on both. What the definitions say of it.
-use Prim.Native.Nat.{ℕ, zero, suc, ◌<◌}
-use mathlib.Core.Path.{◌≡◌, refl}
+use Prim.Native.Nat.{ℕ, zero, suc}
+use mathlib.Core.Path.{refl}
 use mathlib.Core.Logic.{inl, inr}
 use mathlib.Core.List.{[], ◌∷◌}
 use native.Mathlib.Omega.{arith}

@@ -6,7 +6,7 @@ use native.Mathlib.Omega.{arith}
 use native.Mathlib.Nat.{not-suc-le-zero, div-add-mod', div-lt_iff_lt-mul, mod-lt, mul-zero, pos_of_ne-zero}
 use lib.ListN.{length, get_or}
 use lib.Seq.{ext_get_or}
-use Rattle.answers.specs.Rows.{at, Mark, one, none, Row, Marked}
+use Rattle.answers.specs.Rows.{Mark, one, none, Row, Marked}
 
 -- one statement has one mark
 pub one_mark : {P : Type 0} {a b : ℕ} → Mark P a → Mark P b → a ≡ b

@@ -1,5 +1,5 @@
 -- What `report` makes of a sheet of one subject, of a text that is refused, and of a buffer that is too short.
-use Prim.Native.Nat.{ℕ, ◌<◌}
+use Prim.Native.Nat.{ℕ}
 use mathlib.Core.Path.{◌≡◌, refl}
 use mathlib.Core.List.{List, [], ◌∷◌}
 use lib.Dec.{lit<}

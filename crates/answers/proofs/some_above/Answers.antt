@@ -1,8 +1,6 @@
 -- `answers::some_above` meets its contract: so far it says whether a byte that it passed is above `most`.
-use Prim.Native.Nat.{◌≤◌, ◌-◌}
-use mathlib.Core.Path.{◌≡◌, sym, ◌∙◌}
+use mathlib.Core.Path.{sym, ◌∙◌}
 use borrow.Author.Rules.{rules}
-use Rattle.answers.specs.Rows.{some_above}
 use Rattle.answers.proofs.Below.{none_yet, so_far, to_the_end}
 use Rattle.answers.proofs.some_above.Goals as goal
 

@@ -1,5 +1,4 @@
 -- `digits::byte_at` meets its contract: two digits make a byte. Assumes nothing.
-use borrow.Author.Rules.{rules}
 use native.Mathlib.Omega.{arith}
 use Rattle.digits.specs.Inner.{byte_at}
 use Rattle.digits.proofs.Digits.{value_low}

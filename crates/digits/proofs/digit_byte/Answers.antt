@@ -1,5 +1,4 @@
 -- `digits::digit_byte` meets its contract, in each of the two ranges.
-use borrow.Author.Rules.{rules}
 use mathlib.Core.Path.{sym}
 use native.Mathlib.Omega.{arith}
 use Rattle.digits.proofs.Digits.{byte_decimal, byte_letter}

@@ -1,5 +1,4 @@
 -- `digits::digit_of` meets its contract: each range of the byte has its law. Assumes nothing.
-use borrow.Author.Rules.{rules}
 use native.Mathlib.Omega.{arith}
 use Rattle.digits.proofs.Values.{digit_none, digit_decimal, digit_letter}
 use Rattle.digits.proofs.digit_of.Goals as goal

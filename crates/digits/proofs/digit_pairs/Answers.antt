@@ -1,11 +1,6 @@
 -- `digits::digit_pairs` meets its contract: the invariant: the line is pairs of digits exactly if what is left of it is. Assumes nothing.
-use borrow.Author.Rules.{rules}
 use native.Mathlib.Omega.{arith}
-use Prim.Native.Nat.{◌≤◌, ◌-◌}
-use mathlib.Core.Path.{◌≡◌, sym, ◌∙◌}
-use borrow.Author.Tests.{not-true, not-false}
-use lib.ListN.{length, drop}
-use Rattle.digits.specs.Digit.{digit_pairs}
+use mathlib.Core.Path.{sym, ◌∙◌}
 use Rattle.digits.proofs.Pairs.{pair_lacks, pairs_done, first_fails, second_fails, pair_passes}
 use Rattle.digits.proofs.digit_pairs.Goals as goal
 

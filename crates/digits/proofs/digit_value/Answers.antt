@@ -1,5 +1,4 @@
 -- `digits::digit_value` meets its contract: the byte is a digit, so the answer holds its value. Assumes nothing.
-use borrow.Author.Rules.{rules}
 use mathlib.Core.Path.{sym, ◌∙◌}
 use mathlib.Core.Bool.{false≢true}
 use Rattle.digits.proofs.Values.{value_tells, none_tells}

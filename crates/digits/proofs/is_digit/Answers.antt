@@ -1,5 +1,4 @@
 -- `digits::is_digit` meets its contract: by what the answer for the byte tells. Assumes nothing.
-use borrow.Author.Rules.{rules}
 use mathlib.Core.Path.{sym}
 use Rattle.digits.proofs.Values.{value_tells, none_tells}
 use Rattle.digits.proofs.is_digit.Goals as goal

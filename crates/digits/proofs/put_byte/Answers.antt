@@ -1,5 +1,4 @@
 -- `digits::put_byte` meets its contract: two digits are set.
-use borrow.Author.Rules.{rules}
 use native.Mathlib.Omega.{arith}
 use native.Mathlib.Numerals.{add-one}
 use lib.ListN.{length-set}

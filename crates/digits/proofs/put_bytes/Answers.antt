@@ -1,9 +1,5 @@
 -- `digits::put_bytes` meets its contract. The loop's invariant: the digits of the bytes passed are written.
-use Prim.Native.Nat.{◌+◌, ◌*◌, ◌-◌, ◌≤◌}
 use native.Mathlib.Omega.{arith}
-use lib.ListN.{length, take}
-use Rattle.digits.specs.Digit.{to_digits}
-use Rattle.digits.specs.Inner.{Put}
 use Rattle.digits.proofs.Puts.{put_long, digits_none, digits_more, digits_all}
 use Rattle.digits.proofs.put_bytes.Goals as goal
 

@@ -1,10 +1,8 @@
 -- `digits::put_bytes` meets its contract. The loop's invariant: the digits of the bytes passed are written.
 use Prim.Native.Nat.{◌+◌, ◌*◌, ◌-◌, ◌≤◌}
-use native.Mathlib.Omega.{arith}
 use lib.ListN.{length, take}
 use Rattle.digits.specs.Digit.{to_digits}
 use Rattle.digits.specs.Inner.{Put}
-use Rattle.digits.proofs.Puts.{put_long, digits_none, digits_more, digits_all}
 use Rattle.digits.proofs.put_bytes.Given as goal
 
 abbrev pub invariant-loop-i : goal.invariant-loop-i

@@ -1,6 +1,5 @@
 -- `digits::put_line` meets its contract: the digits are written, and a line feed past them.
 use native.Mathlib.Omega.{arith}
-use borrow.Author.Rules.{rules}
 use Rattle.digits.proofs.Puts.{digits_long, line_ended}
 use Rattle.digits.proofs.put_line.Goals as goal
 

@@ -1,5 +1,4 @@
 -- `lines::end_from` meets its contract: the end that was found is that of the line.
-use borrow.Author.Rules.{rules}
 use Rattle.lines.proofs.Starts.{ends_from}
 use Rattle.lines.proofs.end_from.Goals as goal
 

@@ -1,11 +1,6 @@
 -- `lines::end_of_line` meets its contract: no line feed was passed. Assumes nothing.
-use borrow.Author.Rules.{rules}
 use native.Mathlib.Omega.{arith}
-use Prim.Native.Nat.{ℕ, ◌≤◌, ◌<◌, ◌-◌}
-use mathlib.Core.Logic.{◌≢◌}
 use borrow.Author.Count.{below_more}
-use lib.ListN.{length, get_or}
-use Rattle.digits.specs.Line.{feed}
 use Rattle.lines.proofs.end_of_line.Goals as goal
 
 pub loop-i-init : goal.loop-i-init

@@ -1,5 +1,4 @@
 -- `lines::line_end` meets its contract: the line ends where the one does that begins at its place.
-use borrow.Author.Rules.{rules}
 use mathlib.Core.Path.{sym, ◌∙◌}
 use native.Mathlib.Omega.{arith}
 use Rattle.lines.proofs.Places.{end_within, start_first}

@@ -1,9 +1,6 @@
 -- `lines::line_start` meets its contract: `at` is where line number k begins.
 use mathlib.Core.Path.{◌≡◌}
-use Prim.Native.Nat.{◌≤◌, ◌<◌, ◌-◌}
 use native.Mathlib.Omega.{arith}
-use lib.ListN.{length}
-use Rattle.digits.specs.Line.{line_start}
 use Rattle.lines.proofs.Starts.{start_first_line, start_step, start_last, start_none}
 use Rattle.lines.proofs.line_start.Goals as goal
 

@@ -1,5 +1,4 @@
 -- `lines::next_from` meets its contract: the next line begins past the line feed, or the text has ended.
-use borrow.Author.Rules.{rules}
 use native.Mathlib.Omega.{arith}
 use Rattle.lines.proofs.Starts.{past_feed, past_last}
 use Rattle.lines.proofs.next_from.Goals as goal

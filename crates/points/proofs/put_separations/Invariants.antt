@@ -2,7 +2,6 @@
 use Prim.Native.Nat.{◌≤◌, ◌-◌}
 use mathlib.Core.Path.{◌≡◌}
 use lib.ListN.{length}
-use borrow.Author.Rules.{rules}
 use Rattle.points.proofs.put_separations.Given as goal
 
 abbrev pub invariant-loop-i : goal.invariant-loop-i

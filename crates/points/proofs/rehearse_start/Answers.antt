@@ -2,10 +2,6 @@
 use mathlib.Core.Path.{sym}
 use native.Mathlib.Omega.{arith}
 use lib.Seq.{length-take-le}
-use borrow.Author.Rules.{rules}
-use Rattle.points.proofs.rehearse_start.Reads as reads
-use Rattle.points.proofs.rehearse_start.Lts as lts
-use Rattle.points.proofs.rehearse.Reads as rehearse-reads
 use Rattle.points.proofs.rehearse_start.Goals as goal
 
 pub slice_bounds-rehearse-end : goal.slice_bounds-rehearse-end

@@ -1,5 +1,4 @@
 -- `refusals::byte_refusal` meets its contract: its refusals are those of the list.
-use borrow.Author.Rules.{rules}
 use Rattle.answers.specs.Call.{first_refusal}
 use Rattle.answers.proofs.Products.{product_fits}
 use Rattle.tables.specs.FlowTable.{byte_refusals}

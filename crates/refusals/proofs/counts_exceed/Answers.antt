@@ -1,5 +1,4 @@
 -- `refusals::counts_exceed` meets its contract, by that of `either`.
-use borrow.Author.Rules.{rules}
 use Rattle.refusals.proofs.counts_exceed.Goals as goal
 
 pub returns : goal.returns

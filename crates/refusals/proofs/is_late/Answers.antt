@@ -1,5 +1,4 @@
 -- `refusals::is_late` meets its contract: the first separation is not late, and another by its number.
-use borrow.Author.Rules.{rules}
 use native.Mathlib.Omega.{arith}
 use borrow.Author.Tests.{le-ltb, lt-ltb}
 use Rattle.refusals.proofs.is_late.Goals as goal

@@ -1,13 +1,8 @@
 -- `refusals::separation_refusal` meets its contract: no separation passed is faulty.
 use Prim.Native.Nat.{◌≤◌, ◌-◌}
 use mathlib.Core.Path.{◌≡◌}
-use native.Mathlib.Omega.{arith}
-use borrow.Author.Rules.{rules}
 use Rattle.answers.specs.Call.{first_refusal, each_below}
-use Rattle.answers.proofs.Scans.{none_yet, none_more}
 use Rattle.tables.specs.Refusals.{pair_refusals}
-use Rattle.refusals.proofs.Separated.{too_many, faulty, faultless}
-use Rattle.tables.proofs.Accepted.{pair_numbered}
 use Rattle.refusals.proofs.separation_refusal.Given as goal
 
 abbrev pub invariant-loop-i : goal.invariant-loop-i

@@ -1,5 +1,4 @@
 -- `refusals::sheet_refusal` meets its contract: one half of the list, and then the other.
-use borrow.Author.Rules.{rules}
 use native.Mathlib.Omega.{arith}
 use Rattle.answers.proofs.Calls.{first_refuses, second_decides}
 use Rattle.tables.specs.Refusals.{sheet_refusals}

@@ -1,5 +1,4 @@
 -- `refusals::size_refusal` meets its contract: its refusals are those of the list.
-use borrow.Author.Rules.{rules}
 use Rattle.answers.specs.Call.{first_refusal}
 use Rattle.tables.specs.Refusals.{size_refusals}
 use Rattle.refusals.proofs.size_refusal.Goals as goal

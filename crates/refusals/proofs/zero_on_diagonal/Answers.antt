@@ -1,12 +1,9 @@
 -- `refusals::zero_on_diagonal` meets its contract: no byte passed is 0.
-use Prim.Native.Nat.{◌+◌, ◌*◌, ◌-◌, ◌≤◌, ◌<◌}
-use mathlib.Core.Path.{◌≡◌, sym}
-use mathlib.Core.Bool.{false}
+use Prim.Native.Nat.{◌+◌, ◌*◌, ◌<◌}
+use mathlib.Core.Path.{sym}
 use native.Mathlib.Omega.{arith}
 use borrow.Author.Rules.{rules}
 use borrow.Author.Tests.{eq-eqb, ne_eqb}
-use lib.Dec.{eqb}
-use Rattle.answers.specs.Rows.{at, any_below}
 use Rattle.answers.proofs.Below.{none_yet, none_more, none, found}
 use Rattle.tables.proofs.FlowTables.{byte_within}
 use Rattle.refusals.proofs.zero_on_diagonal.Goals as goal

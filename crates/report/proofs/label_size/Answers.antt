@@ -1,6 +1,5 @@
 -- `report::label_size` meets its contract: the size of the label that is written.
 use native.Mathlib.Omega.{arith}
-use borrow.Author.Rules.{rules}
 use Rattle.report.proofs.Asking.{labelling, counted}
 use Rattle.report.proofs.label_size.Goals as goal
 

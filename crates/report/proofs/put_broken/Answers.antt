@@ -1,6 +1,5 @@
 -- `report::put_broken` meets its contract: the head's digits and the chain's line are one line.
 use native.Mathlib.Omega.{arith}
-use borrow.Author.Rules.{rules}
 use mathlib.Core.Path.{sym}
 use lib.Seq.{length-take-le}
 use Rattle.digits.specs.Digit.{to_digits}

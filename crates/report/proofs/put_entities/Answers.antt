@@ -1,9 +1,5 @@
 -- `report::put_entities` meets its contract. The loop's invariant: the lines of the entities passed are written.
-use Prim.Native.Nat.{◌-◌, ◌≤◌}
 use native.Mathlib.Omega.{arith}
-use Rattle.answers.specs.Rows.{Bytes}
-use Rattle.output.specs.Output.{EntityLines}
-use Rattle.report.specs.Inner.{PutOutput}
 use Rattle.report.proofs.EachLine.{lines_none, lines_more, lines_all, lines_place}
 use Rattle.report.proofs.put_entities.Goals as goal
 

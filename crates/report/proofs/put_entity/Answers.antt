@@ -1,7 +1,6 @@
 -- `report::put_entity` meets its contract: each answer is a byte, and the line is that of the answers.
 use Prim.Native.Nat.{◌<◌}
 use native.Mathlib.Omega.{arith}
-use borrow.Author.Rules.{rules}
 use Rattle.report.proofs.Asking.{asked, described, all_bytes}
 use Rattle.report.proofs.put_entity.Goals as goal
 use Rattle.report.proofs.put_entity.Goals.{After-label_size-size}

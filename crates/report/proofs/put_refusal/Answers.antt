@@ -1,5 +1,4 @@
 -- `report::put_refusal` meets its contract: the line has the number and the line's two bytes.
-use borrow.Author.Rules.{rules}
 use Rattle.output.specs.Output.{refusal_line}
 use Rattle.report.proofs.put_refusal.Goals as goal
 

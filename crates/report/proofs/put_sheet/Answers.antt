@@ -1,7 +1,6 @@
 -- `report::put_sheet` meets its contract: the flow table is filled, its lines and the verdict's line are written.
 use native.Mathlib.Omega.{arith}
-use borrow.Author.Rules.{rules}
-use Rattle.tables.specs.Sheet.{Lent, lent}
+use Rattle.tables.specs.Sheet.{lent}
 use Rattle.report.proofs.EachLine.{lines_place}
 use Rattle.report.proofs.Reporting.{is_accepted, sheet_put}
 use Rattle.report.proofs.put_sheet.Goals as goal

@@ -1,7 +1,6 @@
 -- `report::put_verdict` meets its contract, where all hold and where one is broken.
 use native.Mathlib.Omega.{arith}
-use borrow.Author.Rules.{rules}
-use Rattle.tables.specs.Sheet.{Lent, lent}
+use Rattle.tables.specs.Sheet.{lent}
 use Rattle.report.proofs.VerdictLines.{hold_line, broken_small, broken_line}
 use Rattle.report.proofs.put_verdict.Goals as goal
 

@@ -1,6 +1,5 @@
 -- `report::report` meets its contract: each return by what reading answered.
 use native.Mathlib.Omega.{arith}
-use borrow.Author.Rules.{rules}
 use Rattle.sheet.proofs.ReadDone.{read_done}
 use Rattle.report.proofs.Reporting.{is_refused, line_fits, is_printable, too_short, refused_reported, sheet_reported}
 use Rattle.report.proofs.report.Goals as goal
