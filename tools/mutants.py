@@ -4,7 +4,7 @@ each mutant that is still proved: either it says the same thing, or no law, exam
 
 usage: tools/mutants.py [--most N] [--seed K] CRATE..
 
-It works on a copy of the repository in a temporary folder; target/ is copied too, so all should be proved before. Refused for its type or
+It works on a copy of the repository in a temporary folder; what rt keeps in out/ is copied too, so all should be proved before. Refused for its type or
 for a missing import counts as refused. docs/PROVING.md says of each mutant that passes why it says the same thing."""
 import argparse
 import glob
@@ -28,13 +28,13 @@ TURNED = [
     (r"\.subjects\b", ".objects"), (r"\.objects\b", ".subjects"), (r"\.roles\b", ".objects"), (r"\.roles\b", ".subjects"),
     (r"\.assignment\b", ".permission"), (r"\.permission\b", ".assignment"), (r"\.lines\b", ".separations"), (r"\.separations\b", ".lines"),
     (r"\((\S[^()]*|\S[^()]*\([^()]*\)) → ⊥\)", r"(\1)"),
-    (r"\b([a-zA-Z]′?) ([a-zA-Z]′?)(?![\w′])", r"\2 \1"), (r"\b([a-z]\w*′?) ∷ ([a-z]\w*′?)(?![\w′])", r"\2 ∷ \1"),
+    (r"\b([a-zA-Z]'?) ([a-zA-Z]'?)(?![\w'])", r"\2 \1"), (r"\b([a-z]\w*'?) ∷ ([a-z]\w*'?)(?![\w'])", r"\2 ∷ \1"),
 ]
 # Names of one kind: each is tried as the next one.
 KINDS = [
-    ["leastAssignment", "leastPermission", "leastSeparations", "leastFlow", "leastChain", "leastText", "leastMarks", "leastVerdicts"],
-    ["leastLabel", "leastEffect", "leastSeparations"],
-    ["mostSubjects", "mostObjects", "mostRoles", "mostEntities", "mostSeparations", "mostTransfers", "mostTransferBytes", "mostText"],
+    ["least_assignment", "least_permission", "least_separations", "least_flow", "least_chain", "least_text", "least_marks", "least_verdicts"],
+    ["least_label", "least_effect", "least_separations"],
+    ["most_subjects", "most_objects", "most_roles", "most_entities", "most_separations", "most_transfers", "most_transfer_bytes", "most_text"],
     ["equal", "below", "above", "incomparable"],
     ["applied", "outside", "barred"],
 ]
@@ -62,7 +62,7 @@ def is_heading(line):
 def is_binder(line, start, end):
     """Whether the place is among names that a binder introduces, in an implicit binder, or on the left of a definition."""
     front = line[:start]
-    binds = re.match(r"[\w′ ]* : ", line[end:]) and re.search(r"[({][\w′ ]*$", front)
+    binds = re.match(r"[\w' ]* : ", line[end:]) and re.search(r"[({][\w' ]*$", front)
     defines = " = " in line[end:] and " = " not in front and "record {" not in front and not line.startswith("  pub ")
     return binds or defines or front.count("{") > front.count("}") and "record {" not in front
 
@@ -97,7 +97,7 @@ def mutants(crate):
 
 def is_proved(crate):
     try:
-        return subprocess.run(["rt", "check", crate], capture_output=True, timeout=1200).returncode == 0
+        return subprocess.run(["rt", "check"], cwd="crates/" + crate, capture_output=True, timeout=1200).returncode == 0
     except subprocess.TimeoutExpired:
         return False
 
