@@ -177,7 +177,9 @@ def check_functions(check, tree, found):
 
 
 def enclosing(lines, number):
-    """The function whose text has that line."""
+    """The function whose text, with the attributes above it, has that line."""
+    while lines[number - 1].lstrip().startswith("#["):
+        number += 1
     heads = [re.match(r' *(?:pub )?(?:const )?(?:extern "C" )?fn (\w+)', line) for line in lines[:number]]
     return next((head[1] for head in reversed(heads) if head), "?")
 

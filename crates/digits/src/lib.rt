@@ -14,6 +14,10 @@ pub enum Digit {
     NotDigit,
 }
 
+const NINE: u8 = 57;
+
+const LETTER_F: u8 = 102;
+
 // By the two ranges of digits, 0-9 and a-f.
 pub fn digit_of(b: u8) -> Digit
     ensures { result ≡ digit_of b }
@@ -21,13 +25,13 @@ pub fn digit_of(b: u8) -> Digit
     if b < 48 {
         return Digit::NotDigit;
     }
-    if b <= 57 {
+    if b <= NINE {
         return Digit::Value(b - 48);
     }
     if b < 97 {
         return Digit::NotDigit;
     }
-    if b <= 102 {
+    if b <= LETTER_F {
         return Digit::Value(b - 87);
     }
     Digit::NotDigit

@@ -122,7 +122,8 @@ pub fn chosen_row<'a>(
     if can_choose(before, after, n, choice, x) {
         let from = x * n;
         let to = from + n;
-        if choice == 0 {
+        let is_before = choice == 0;
+        if is_before {
             return &before[from..to];
         }
         return &after[from..to];

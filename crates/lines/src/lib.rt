@@ -12,7 +12,8 @@ pub fn end_of_line(text: &[u8], p: usize) -> usize
 {
     let mut i = p;
     while i < text.len() {
-        if text[i] == 10 {
+        let is_feed = text[i] == 10;
+        if is_feed {
             return i;
         }
         i += 1;

@@ -136,7 +136,8 @@ fn zero_on_diagonal(n: usize, table: &[u8]) -> bool
 {
     let mut x = 0;
     while x < n {
-        if table[x * n + x] == 0 {
+        let is_zero = table[x * n + x] == 0;
+        if is_zero {
             return true;
         }
         x += 1;

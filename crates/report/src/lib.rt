@@ -95,7 +95,8 @@ fn put_verdict(
         separations,
         &mut chain,
     );
-    if judged.answer == 0 {
+    let all_hold = judged.answer == 0;
+    if all_hold {
         let line = [VERDICT, 0];
         return digits::put_line(out, at, &line);
     }

@@ -92,7 +92,8 @@ fn put_cell(text: &mut [u8], pen: Pen, permits: bool, width: usize, i: usize, by
     requires room { Room (shown byte (frame_at permits width i byte)) pen text.old }
     ensures { Puts (shown byte (frame_at permits width i byte)) pen text.old result text.new }
 {
-    if byte == 0 {
+    let is_absent = byte == 0;
+    if is_absent {
         return pen;
     }
     put_frame(text, pen, frame_at(permits, width, i, byte))

@@ -71,7 +71,8 @@ pub fn read(
     if refusal != 0 {
         return refused_reading(refusal, 0);
     }
-    if sizes::MOST_TEXT < text.len() {
+    let is_over = sizes::MOST_TEXT < text.len();
+    if is_over {
         return refused_reading(5, 0);
     }
     let checked = checking::check_text(text);

@@ -10,12 +10,12 @@ use Rattle.chains.proofs.measure.Goals as goal
 use Rattle.chains.proofs.measure.Goals.{Start}
 
 -- as many bytes are lent as there can be entities
-lent-size : (c : Start) → length c.args.dist.now ≡ most_entities
-lent-size c = ap length c.requires.3 ∙ length-replicate most_entities far
+lent_size : (c : Start) → length c.args.dist.now ≡ most_entities
+lent_size c = ap length c.requires.3 ∙ length-replicate most_entities far
 
 pub loop-fresh-init : goal.loop-fresh-init
 loop-fresh-init c =
-    (simp length-set (lent-size (goal.at.loop-fresh-init c).Start), rw c.requires.3 (phase_first _ c.args.n c.args.y (omega arith) (omega arith)))
+    (simp length-set (lent_size (goal.at.loop-fresh-init c).Start), rw c.requires.3 (phase_first _ c.args.n c.args.y (omega arith) (omega arith)))
 
 pub loop-fresh-preserved : goal.loop-fresh-preserved
 loop-fresh-preserved c = (

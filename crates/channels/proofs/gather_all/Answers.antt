@@ -9,10 +9,10 @@ use Rattle.channels.proofs.gather_all.Goals as goal
 use Rattle.channels.proofs.gather_all.Goals.{In-loop-s}
 
 -- so many places are lent
-lent-long : (c : In-loop-s) →
+lent_long : (c : In-loop-s) →
     let start = c.loop-s.s * 48 in
     length (take (start + 48 - start) (drop start c.loop-s.lists)) ≡ start + 48 - start
-lent-long c =
+lent_long c =
     let start = c.loop-s.s * 48 in
     mid_len start (start + 48) c.loop-s.lists (omega arith)
 
@@ -22,7 +22,7 @@ loop-s-preserved c =
     let s = c.loop-s.s in
     let inside : s < length c.loop-s.used = omega arith in
     let within : s * 48 + 48 ≤ length c.loop-s.lists = omega arith in
-    let long : length c.gather.new.list ≡ 48 = c.gather.auto.list ∙ lent-long (goal.at.loop-s-preserved c).In-loop-s ∙ omega arith in (
+    let long : length c.gather.new.list ≡ 48 = c.gather.auto.list ∙ lent_long (goal.at.loop-s-preserved c).In-loop-s ∙ omega arith in (
       omega arith,
       omega arith,
       simp length-set inv.2,

@@ -6,14 +6,14 @@ use Rattle.digits.proofs.digit_of.Goals as goal
 pub returns-then-b-lt48 : goal.returns-then-b-lt48
 returns-then-b-lt48 c = digit_none _ (λ h. omega arith) (λ h. omega arith)
 
-pub returns-then-b-le57 : goal.returns-then-b-le57
-returns-then-b-le57 c = digit_decimal _ (omega arith) (omega arith)
+pub returns-then-b-le-NINE : goal.returns-then-b-le-NINE
+returns-then-b-le-NINE c = digit_decimal _ (omega arith) (omega arith)
 
 pub returns-then-b-lt97 : goal.returns-then-b-lt97
 returns-then-b-lt97 c = digit_none _ (λ h. omega arith) (λ h. omega arith)
 
-pub returns-then-b-le102 : goal.returns-then-b-le102
-returns-then-b-le102 c = digit_letter _ (omega arith) (omega arith)
+pub returns-then-b-le-LETTER_F : goal.returns-then-b-le-LETTER_F
+returns-then-b-le-LETTER_F c = digit_letter _ (omega arith) (omega arith)
 
 pub returns : goal.returns
 returns c = digit_none _ (λ h. omega arith) (λ h. omega arith)

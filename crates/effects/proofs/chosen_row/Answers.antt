@@ -19,10 +19,10 @@ overflow_add-to c = omega (arith, fits (goal.at.overflow_add-to c).Then-can_choo
 pub slice_bounds-result-end : goal.slice_bounds-result-end
 slice_bounds-result-end c = omega (arith, fits (goal.at.slice_bounds-result-end c).Then-can_choose)
 
-pub returns-then-choice-eq0 : goal.returns-then-choice-eq0
-returns-then-choice-eq0 c =
+pub returns-then-is_before : goal.returns-then-is_before
+returns-then-is_before c =
     let a = c.args in
-    row_before a.before a.after a.n a.choice a.x (sym c.can_choose.ensures ∙ c.if-can_choose.true) c.if-choice-eq0.true (record { bytes = refl; block = refl; place = refl })
+    row_before a.before a.after a.n a.choice a.x (sym c.can_choose.ensures ∙ c.if-can_choose.true) c.if-is_before.true (record { bytes = refl; block = refl; place = refl })
 
 pub slice_bounds-result-end-then-can_choose : goal.slice_bounds-result-end-then-can_choose
 slice_bounds-result-end-then-can_choose c = omega (arith, fits (goal.at.slice_bounds-result-end-then-can_choose c).Then-can_choose)
@@ -30,7 +30,7 @@ slice_bounds-result-end-then-can_choose c = omega (arith, fits (goal.at.slice_bo
 pub returns-then-can_choose : goal.returns-then-can_choose
 returns-then-can_choose c =
     let a = c.args in
-    row_after a.before a.after a.n a.choice a.x (sym c.can_choose.ensures ∙ c.if-can_choose.true) c.if-choice-eq0.false (record { bytes = refl; block = refl; place = refl })
+    row_after a.before a.after a.n a.choice a.x (sym c.can_choose.ensures ∙ c.if-can_choose.true) c.if-is_before.false (record { bytes = refl; block = refl; place = refl })
 
 pub returns : goal.returns
 returns c =

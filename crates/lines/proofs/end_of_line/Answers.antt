@@ -6,17 +6,17 @@ use Rattle.lines.proofs.end_of_line.Goals as goal
 pub loop-i-init : goal.loop-i-init
 loop-i-init c = (omega arith, omega arith, λ k h l. absurd (omega arith))
 
-pub returns-then-text-i-eq10 : goal.returns-then-text-i-eq10
-returns-then-text-i-eq10 c =
+pub returns-then-is_feed : goal.returns-then-is_feed
+returns-then-is_feed c =
     record {
       after = omega arith;
       within = omega arith;
       none = λ i h l. c.loop-i.invariant.2 i l h;
-      fed = λ h. c.if-text-i-eq10.true;
+      fed = λ h. c.if-is_feed.true;
     }
 
 pub loop-i-preserved : goal.loop-i-preserved
-loop-i-preserved c = (omega arith, omega arith, below_more _ _ c.loop-i.invariant.2 (λ l. c.if-text-i-eq10.false))
+loop-i-preserved c = (omega arith, omega arith, below_more _ _ c.loop-i.invariant.2 (λ l. c.if-is_feed.false))
 
 pub returns : goal.returns
 returns c =

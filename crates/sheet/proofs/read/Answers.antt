@@ -14,8 +14,8 @@ long c = lengths_passed _ (sym (c.length_refusal-refusal.ensures _ refl refl ref
 pub returns-then-refusal-ne0 : goal.returns-then-refusal-ne0
 returns-then-refusal-ne0 c = rw c.refused_reading.ensures (short_refused _ _ _ (c.length_refusal-refusal.ensures _ refl refl refl) c.if-refusal-ne0.true)
 
-pub returns-then-text-gt-MOST_TEXT : goal.returns-then-text-gt-MOST_TEXT
-returns-then-text-gt-MOST_TEXT c = rw c.refused_reading-then-text-gt-MOST_TEXT.ensures (long_text _ _ (long (goal.at.returns-then-text-gt-MOST_TEXT c).Else-refusal-ne0) c.if-text-gt-MOST_TEXT.true)
+pub returns-then-is_over : goal.returns-then-is_over
+returns-then-is_over c = rw c.refused_reading-then-is_over.ensures (long_text _ _ (long (goal.at.returns-then-is_over c).Else-refusal-ne0) c.if-is_over.true)
 
 pub fill-requires : goal.fill-requires
 fill-requires c =
@@ -25,9 +25,9 @@ fill-requires c =
     }
 
 pub returns-in-Refused : goal.returns-in-Refused
-returns-in-Refused c = rw c.refused_reading-in-Refused.ensures (line_refused _ _ (long (goal.at.returns-in-Refused c).Else-refusal-ne0) c.if-text-gt-MOST_TEXT.false _ _ (sym c.check_text-checked.ensures.verdict ∙ c.in-Refused.is))
+returns-in-Refused c = rw c.refused_reading-in-Refused.ensures (line_refused _ _ (long (goal.at.returns-in-Refused c).Else-refusal-ne0) c.if-is_over.false _ _ (sym c.check_text-checked.ensures.verdict ∙ c.in-Refused.is))
 
 pub returns-in-Accepted : goal.returns-in-Accepted
 returns-in-Accepted c =
     rw c.accepted_reading.ensures
-    (tables_filled _ _ (long (goal.at.returns-in-Accepted c).Else-refusal-ne0) c.if-text-gt-MOST_TEXT.false _ _ c.check_text-checked.ensures c.in-Accepted.is c.fill.ensures)
+    (tables_filled _ _ (long (goal.at.returns-in-Accepted c).Else-refusal-ne0) c.if-is_over.false _ _ c.check_text-checked.ensures c.in-Accepted.is c.fill.ensures)
