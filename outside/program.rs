@@ -139,7 +139,7 @@ fn reason(command: &mut Command, out: Stdio, text: &[u8]) -> Vec<u8> {
 }
 
 // A device that is full, a file that is open for reading alone, and a pipe that nobody reads, with its signal ignored: the reason goes to
-// standard error, and each has its own. The status is not looked at: the language's programs have none.
+// standard error, and each has its own. The status is not looked at.
 fn failed_writes(program: &str, text: &[u8]) -> Vec<bool> {
     let full = OpenOptions::new().write(true).open("/dev/full").expect("/dev/full");
     let closed = File::open("/dev/null").expect("/dev/null");
