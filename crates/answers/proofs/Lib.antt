@@ -6,6 +6,8 @@ pub mod Joined
 pub mod Products
 pub mod Marks
 pub mod Calls
+pub mod Rules
+pub mod Exits
 pub mod Numbers
 pub mod Scans
 pub mod Parts

@@ -4,14 +4,16 @@
 ghost use Rattle.std.specs.Prelude.{◌≡◌, ◌&&◌, ◌||◌, ◌+◌, ◌-◌, ◌*◌, ◌<◌, ◌≤◌, leb, ltb, length};
 ghost use Rattle.answers.specs.Sizes.{most_subjects, most_objects, most_roles, least_separations};
 ghost use Rattle.answers.specs.Call.{first_refusal};
+ghost use Rattle.answers.specs.Refused.{code};
 ghost use Rattle.answers.specs.Rows.{exceeds};
-ghost use Rattle.tables.specs.Sheet.{lent, separation_key};
+ghost use Rattle.tables.specs.Sheet.{lent, lent_by, separation_key};
 ghost use Rattle.tables.specs.Refusals.{size_refusals, used_refusals, sheet_refusals, pair_refusals, separation_refusals};
 ghost use Rattle.tables.specs.FlowTable.{byte_refusals, flow_size_refusals, flow_refusals, zero_on_diagonal, SizedFlow};
 ghost use Rattle.refusals.specs.Inner.{Measured};
 
 use answers::sizes;
-use tables::Counts;
+use answers::refused::{Refused, first_refused};
+use tables::{Counts, Tables};
 
 // What a call says of its other buffers, if it has none.
 pub const NO_OTHER: bool = false;
@@ -32,46 +34,40 @@ pub fn counts_exceed(counts: Counts) -> bool
     answers::either(some, counts.roles > sizes::MOST_ROLES)
 }
 
-// 1 or 5 of a call on tables, 0 for none.
-fn size_refusal(short: bool, long: bool, counts: Counts, assignment: &[u8], permission: &[u8]) -> u8
-    ensures { result ≡ first_refusal (size_refusals short long (lent counts assignment.now permission.now)) }
+// 1 or 5 of a call on tables.
+fn check_sizes(short: bool, long: bool, sheet: Tables) -> Result<(), Refused>
+    ensures { code result ≡ first_refusal (size_refusals short long (lent_by sheet.entry)) }
 {
-    let list = answers::refuse(long, 5, 0);
-    let roles = answers::refuse(counts.roles > sizes::MOST_ROLES, 5, list);
-    let objects = answers::refuse(counts.objects > sizes::MOST_OBJECTS, 5, roles);
-    let subjects = answers::refuse(counts.subjects > sizes::MOST_SUBJECTS, 5, objects);
-    let permitted = answers::refuse(permission.len() < sizes::LEAST_PERMISSION, 1, subjects);
-    let assigned = answers::refuse(assignment.len() < sizes::LEAST_ASSIGNMENT, 1, permitted);
-    answers::refuse(short, 1, assigned)
+    let counts = sheet.counts;
+    first_refused(&[
+        (short, Refused::ShortBuffer),
+        (sheet.assignment.len() < sizes::LEAST_ASSIGNMENT, Refused::ShortBuffer),
+        (sheet.permission.len() < sizes::LEAST_PERMISSION, Refused::ShortBuffer),
+        (counts.subjects > sizes::MOST_SUBJECTS, Refused::Oversized),
+        (counts.objects > sizes::MOST_OBJECTS, Refused::Oversized),
+        (counts.roles > sizes::MOST_ROLES, Refused::Oversized),
+        (long, Refused::Oversized),
+    ])
 }
 
-// 11 of tables that passed 1 and 5, 0 for none.
-fn used_refusal(counts: Counts, assignment: &[u8], permission: &[u8]) -> u8
-    requires { Measured (lent counts assignment.now permission.now) }
-    ensures { result ≡ first_refusal (used_refusals (lent counts assignment.now permission.now)) }
+// 11 of tables that passed 1 and 5.
+fn check_used(sheet: Tables) -> Result<(), Refused>
+    requires { Measured (lent_by sheet) }
+    ensures { code result ≡ first_refusal (used_refusals (lent_by sheet.entry)) }
 {
-    let mode = answers::some_above(permission, counts.roles * counts.objects, 3);
-    let assigned = answers::some_above(assignment, counts.subjects * counts.roles, 1);
-    let permitted = answers::refuse(mode, 11, 0);
-    answers::refuse(assigned, 11, permitted)
+    let counts = sheet.counts;
+    let assigned = answers::some_above(sheet.assignment, counts.subjects * counts.roles, 1);
+    let modes = answers::some_above(sheet.permission, counts.roles * counts.objects, 3);
+    first_refused(&[(assigned, Refused::TableByte), (modes, Refused::TableByte)])
 }
 
-// 1, 5 or 11 of a call on tables, 0 for none. `short` says that another buffer of the call is too short, `long` that its
+// 1, 5 or 11 of a call on tables. `short` says that another buffer of the call is too short, `long` that its
 // transfer list is over its size. Bytes are looked at only where 1 and 5 have passed.
-pub fn sheet_refusal(
-    short: bool,
-    long: bool,
-    counts: Counts,
-    assignment: &[u8],
-    permission: &[u8],
-) -> u8
-    ensures { result ≡ first_refusal (sheet_refusals short long (lent counts assignment.now permission.now)) }
+pub fn check_sheet(short: bool, long: bool, sheet: Tables) -> Result<(), Refused>
+    ensures { code result ≡ first_refusal (sheet_refusals short long (lent_by sheet.entry)) }
 {
-    let refusal = size_refusal(short, long, counts, assignment, permission);
-    if refusal != 0 {
-        return refusal;
-    }
-    used_refusal(counts, assignment, permission)
+    check_sizes(short, long, sheet)?;
+    check_used(sheet)
 }
 
 // ---- separations
