@@ -95,11 +95,19 @@ pub struct Square<'a> {
 }
 
 impl<'a> Square<'a> {
+    // The byte of x and y.
+    pub fn byte(self, x: usize, y: usize) -> u8
+        requires { (x < self.n) × (y < self.n) }
+        ensures { result ≡ at self.entry.bytes.now self.entry.n x y }
+    {
+        self.bytes[x * self.n + y]
+    }
+
     // Whether the byte of x and y is 1.
     pub fn holds(self, x: usize, y: usize) -> bool
         requires { (x < self.n) × (y < self.n) }
         ensures { result ≡ eqb (at self.entry.bytes.now self.entry.n x y) 1 }
     {
-        self.bytes[x * self.n + y] == 1
+        self.byte(x, y) == 1
     }
 }

@@ -14,10 +14,10 @@ module _ (short : Bool) (n : ℕ) (table : List ℕ) where
   unfolding flow_size_refusals
   flow_size_numbered = tt
 
-  pub sized : (k : ℕ) → k ≡ first_refusal (flow_size_refusals short n table) → k ≡ 0 → SizedFlow n table
+  pub sized : first_refusal (flow_size_refusals short n table) ≡ 0 → SizedFlow n table
   unfolding flow_size_refusals
-  sized k e none =
-      let o = passed _ _ _ tt (sym e ∙ none) in
+  sized none =
+      let o = passed _ _ _ tt none in
       let t = passed _ _ _ tt o.1 in
       let m = passed _ _ _ tt t.1 in
       record { few = ltb-false _ _ m.0; room = ltb-false _ _ t.0 }

@@ -15,10 +15,10 @@ module _ (short long : Bool) (l : Lent) where
   unfolding size_refusals
   size_numbered = tt
 
-  pub measured : (k : ℕ) → k ≡ first_refusal (size_refusals short long l) → k ≡ 0 → Measured l
+  pub measured : first_refusal (size_refusals short long l) ≡ 0 → Measured l
   unfolding size_refusals
-  measured k e none =
-      let o = passed _ _ _ tt (sym e ∙ none) in
+  measured none =
+      let o = passed _ _ _ tt none in
       let a = passed _ _ _ tt o.1 in
       let p = passed _ _ _ tt a.1 in
       let ns = passed _ _ _ tt p.1 in

@@ -1,18 +1,18 @@
-// The refusals that calls on tables share. Each function reads as its rule does, from the last line to the first.
+// The refusals that calls on tables share. Each list of rules reads as the document's.
 #![tactic(auto)]
 
-ghost use Rattle.std.specs.Prelude.{◌≡◌, ◌&&◌, ◌||◌, ◌+◌, ◌-◌, ◌*◌, ◌<◌, ◌≤◌, leb, ltb, length};
+ghost use Rattle.std.specs.Prelude.{◌≡◌, ◌&&◌, ◌||◌, ◌+◌, ◌-◌, ◌*◌, ◌<◌, ◌≤◌, leb, ltb, length, IfOk};
 ghost use Rattle.answers.specs.Sizes.{most_subjects, most_objects, most_roles, least_separations};
 ghost use Rattle.answers.specs.Call.{first_refusal};
 ghost use Rattle.answers.specs.Refused.{code};
 ghost use Rattle.answers.specs.Rows.{exceeds};
-ghost use Rattle.tables.specs.Sheet.{lent, lent_by, separation_key};
+ghost use Rattle.tables.specs.Sheet.{lent_by, separation_key};
 ghost use Rattle.tables.specs.Refusals.{size_refusals, used_refusals, sheet_refusals, pair_refusals, separation_refusals};
-ghost use Rattle.tables.specs.FlowTable.{byte_refusals, flow_size_refusals, flow_refusals, zero_on_diagonal, SizedFlow};
+ghost use Rattle.tables.specs.FlowTable.{byte_refusals, flow_size_refusals, flow_refusals, zero_on_diagonal};
 ghost use Rattle.refusals.specs.Inner.{Measured};
 
-use answers::sizes;
 use answers::refused::{Refused, first_refused};
+use answers::{Square, sizes};
 use tables::{Counts, Tables};
 
 // What a call says of its other buffers, if it has none.
@@ -61,8 +61,8 @@ fn check_used(sheet: Tables) -> Result<(), Refused>
     first_refused(&[(assigned, Refused::TableByte), (modes, Refused::TableByte)])
 }
 
-// 1, 5 or 11 of a call on tables. `short` says that another buffer of the call is too short, `long` that its
-// transfer list is over its size. Bytes are looked at only where 1 and 5 have passed.
+// 1, 5 or 11 of a call on tables. `short` says that another buffer of the call is too short, `long` that its transfer list is over its
+// size. Bytes are looked at only where 1 and 5 have passed.
 pub fn check_sheet(short: bool, long: bool, sheet: Tables) -> Result<(), Refused>
     ensures { code result ≡ first_refusal (sheet_refusals short long (lent_by sheet.entry)) }
 {
@@ -77,7 +77,7 @@ fn key_at(separations: &[u8], i: usize) -> usize
     requires { 2 * i + 1 < length separations.now }
     ensures { result ≡ separation_key separations.now i }
 {
-    answers::wide(separations[2 * i]) * 256 + answers::wide(separations[2 * i + 1])
+    separations[2 * i] as usize * 256 + separations[2 * i + 1] as usize
 }
 
 // Whether separation `i` does not ascend from the one before it.
@@ -85,89 +85,77 @@ fn is_late(separations: &[u8], i: usize) -> bool
     requires { 2 * i + 1 < length separations.now }
     ensures { result ≡ (ltb 0 i && leb (separation_key separations.now i) (separation_key separations.now (i - 1))) }
 {
-    if i == 0 {
-        return false;
-    }
-    key_at(separations, i) <= key_at(separations, i - 1)
+    0 < i && key_at(separations, i) <= key_at(separations, i - 1)
 }
 
-// 6 or 7 of separation `i` among `n` entities, 0 for none.
-fn pair_refusal(n: usize, separations: &[u8], i: usize) -> u8
+// 6 or 7 of separation `i` among `n` entities.
+fn check_pair(n: usize, separations: &[u8], i: usize) -> Result<(), Refused>
     requires { 2 * i + 1 < length separations.now }
-    ensures { result ≡ first_refusal (pair_refusals n separations.now i) }
+    ensures { code result ≡ first_refusal (pair_refusals n separations.now i) }
 {
-    let from = answers::wide(separations[2 * i]);
-    let to = answers::wide(separations[2 * i + 1]);
-    let late = is_late(separations, i);
-    let ascent = answers::refuse(late, 7, 0);
-    let second = answers::refuse(n <= to, 6, ascent);
-    answers::refuse(n <= from, 6, second)
+    first_refused(&[
+        (n <= separations[2 * i] as usize, Refused::OutOfRange),
+        (n <= separations[2 * i + 1] as usize, Refused::OutOfRange),
+        (is_late(separations, i), Refused::NotAscending),
+    ])
 }
 
-// 8 of `count` separations among `n` entities, else 6 or 7 of the first faulty one, 0 for none.
-pub fn separation_refusal(n: usize, count: usize, separations: &[u8]) -> u8
+// 8 of `count` separations among `n` entities, else 6 or 7 of the first faulty one.
+pub fn check_separations(n: usize, count: usize, separations: &[u8]) -> Result<(), Refused>
     requires { least_separations ≤ length separations.now }
-    ensures { result ≡ first_refusal (separation_refusals n count separations.now) }
+    ensures { code result ≡ first_refusal (separation_refusals n count separations.now) }
 {
     if count > sizes::MOST_SEPARATIONS {
-        return 8;
+        return Err(Refused::TooMany);
     }
-    let mut i = 0;
-    while i < count {
-        let refusal = pair_refusal(n, separations, i);
-        if refusal != 0 {
-            return refusal;
-        }
-        i += 1;
+    for i in 0..count {
+        check_pair(n, separations, i)?;
     }
-    0
+    Ok(())
 }
 
 // ---- a flow table
 
 // Whether some entity does not flow to itself.
-fn zero_on_diagonal(n: usize, table: &[u8]) -> bool
-    requires { SizedFlow n table.now }
-    ensures { result ≡ zero_on_diagonal n table.now }
+fn zero_on_diagonal(table: Square) -> bool
+    ensures { result ≡ zero_on_diagonal table.entry.n table.entry.bytes.now }
 {
-    let mut x = 0;
-    while x < n {
-        let is_zero = table[x * n + x] == 0;
+    for x in 0..table.n {
+        let is_zero = table.byte(x, x) == 0;
         if is_zero {
             return true;
         }
-        x += 1;
     }
     false
 }
 
-// 12 of a flow table, 0 for none.
-pub fn byte_refusal(n: usize, table: &[u8]) -> u8
-    requires { SizedFlow n table.now }
-    ensures { result ≡ first_refusal (byte_refusals n table.now) }
+// 12 of a flow table.
+pub fn check_bytes(table: Square) -> Result<(), Refused>
+    ensures { code result ≡ first_refusal (byte_refusals table.entry.n table.entry.bytes.now) }
 {
-    let above = answers::some_above(table, n * n, 1);
-    let diagonal = answers::refuse(zero_on_diagonal(n, table), 12, 0);
-    answers::refuse(above, 12, diagonal)
+    let above = answers::some_above(table.bytes, table.n * table.n, 1);
+    first_refused(&[(above, Refused::FlowByte), (zero_on_diagonal(table), Refused::FlowByte)])
 }
 
-// 1 or 5 of a call on a flow table, 0 for none.
-fn flow_size_refusal(short: bool, n: usize, table: &[u8]) -> u8
-    ensures { result ≡ first_refusal (flow_size_refusals short n table.now) }
+// 1 or 5 of a call on a flow table.
+fn check_flow_sizes(short: bool, n: usize, table: &[u8]) -> Result<(), Refused>
+    ensures { code result ≡ first_refusal (flow_size_refusals short n table.now) }
 {
-    let over = answers::refuse(n > sizes::MOST_ENTITIES, 5, 0);
-    let lent = answers::refuse(table.len() < sizes::LEAST_FLOW, 1, over);
-    answers::refuse(short, 1, lent)
+    first_refused(&[
+        (short, Refused::ShortBuffer),
+        (table.len() < sizes::LEAST_FLOW, Refused::ShortBuffer),
+        (n > sizes::MOST_ENTITIES, Refused::Oversized),
+    ])
 }
 
-// 1, 5 or 12 of a call on a flow table, 0 for none. `short` says that another buffer of the call is too short. Bytes are looked at
-// only where 1 and 5 have passed.
-pub fn flow_refusal(short: bool, n: usize, table: &[u8]) -> u8
-    ensures { result ≡ first_refusal (flow_refusals short n table.now) }
+// A lent flow table that was judged: 1, 5 or 12. `short` says that another buffer of the call is too short. Bytes are looked at only
+// where 1 and 5 have passed.
+pub fn flow_table<'a>(short: bool, n: usize, table: &'a [u8]) -> Result<Square<'a>, Refused>
+    ensures judged { code result ≡ first_refusal (flow_refusals short n table.entry.now) }
+    ensures lent { IfOk result (λ square. (square.n ≡ n) × (square.bytes ≡ table.entry)) }
 {
-    let refusal = flow_size_refusal(short, n, table);
-    if refusal != 0 {
-        return refusal;
-    }
-    byte_refusal(n, table)
+    check_flow_sizes(short, n, table)?;
+    let square = Square { n, bytes: table };
+    check_bytes(square)?;
+    Ok(square)
 }

@@ -1,3 +1,4 @@
+-- `refusals::check_sizes` meets its contract: its rules are those of the list.
 use Rattle.tables.specs.Refusals.{size_refusals}
 use Rattle.refusals.proofs.check_sizes.Goals as goal
 
