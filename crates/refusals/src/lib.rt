@@ -27,11 +27,9 @@ pub const NO_LIST: bool = false;
 pub fn counts_exceed(counts: Counts) -> bool
     ensures { result ≡ (exceeds counts.subjects most_subjects || exceeds counts.objects most_objects || exceeds counts.roles most_roles) }
 {
-    let some = answers::either(
-        counts.subjects > sizes::MOST_SUBJECTS,
-        counts.objects > sizes::MOST_OBJECTS,
-    );
-    answers::either(some, counts.roles > sizes::MOST_ROLES)
+    counts.subjects > sizes::MOST_SUBJECTS
+        || counts.objects > sizes::MOST_OBJECTS
+        || counts.roles > sizes::MOST_ROLES
 }
 
 // 1 or 5 of a call on tables.
