@@ -2,15 +2,14 @@
 #![tactic(auto)]
 
 pub mod refused;
-
 pub mod sizes;
-
-use refused::Refused;
 
 ghost use Rattle.std.specs.Prelude.{◌≡◌, ◌||◌, cond, ◌<◌, ◌≤◌, ◌*◌, eqb, length};
 ghost use Rattle.answers.specs.Refused.{told_of};
 ghost use Rattle.answers.specs.Rows.{some_above, at};
 ghost use Rattle.answers.specs.Sizes.{most_entities};
+
+use refused::Refused;
 
 // An answer number and the one value that goes with it: 0 on a refusal, and where there is nothing to tell.
 #[repr(C)]

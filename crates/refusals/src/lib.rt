@@ -37,10 +37,12 @@ fn check_sizes(short: bool, long: bool, sheet: Tables) -> Result<(), Refused>
     ensures { code result ≡ first_refusal (size_refusals short long (lent_by sheet.entry)) }
 {
     let counts = sheet.counts;
+    let assigned = sheet.assignment.len();
+    let permitted = sheet.permission.len();
     first_refused(&[
         (short, Refused::ShortBuffer),
-        (sheet.assignment.len() < sizes::LEAST_ASSIGNMENT, Refused::ShortBuffer),
-        (sheet.permission.len() < sizes::LEAST_PERMISSION, Refused::ShortBuffer),
+        (assigned < sizes::LEAST_ASSIGNMENT, Refused::ShortBuffer),
+        (permitted < sizes::LEAST_PERMISSION, Refused::ShortBuffer),
         (counts.subjects > sizes::MOST_SUBJECTS, Refused::Oversized),
         (counts.objects > sizes::MOST_OBJECTS, Refused::Oversized),
         (counts.roles > sizes::MOST_ROLES, Refused::Oversized),
@@ -91,10 +93,13 @@ fn check_pair(n: usize, separations: &[u8], i: usize) -> Result<(), Refused>
     requires { 2 * i + 1 < length separations.now }
     ensures { code result ≡ first_refusal (pair_refusals n separations.now i) }
 {
+    let from = separations[2 * i] as usize;
+    let to = separations[2 * i + 1] as usize;
+    let late = is_late(separations, i);
     first_refused(&[
-        (n <= separations[2 * i] as usize, Refused::OutOfRange),
-        (n <= separations[2 * i + 1] as usize, Refused::OutOfRange),
-        (is_late(separations, i), Refused::NotAscending),
+        (n <= from, Refused::OutOfRange),
+        (n <= to, Refused::OutOfRange),
+        (late, Refused::NotAscending),
     ])
 }
 
@@ -132,7 +137,10 @@ pub fn check_bytes(table: Square) -> Result<(), Refused>
     ensures { code result ≡ first_refusal (byte_refusals table.entry.n table.entry.bytes.now) }
 {
     let above = answers::some_above(table.bytes, table.n * table.n, 1);
-    first_refused(&[(above, Refused::FlowByte), (zero_on_diagonal(table), Refused::FlowByte)])
+    first_refused(&[
+        (above, Refused::FlowByte),
+        (zero_on_diagonal(table), Refused::FlowByte),
+    ])
 }
 
 // 1 or 5 of a call on a flow table.
