@@ -6,25 +6,18 @@ ghost use Rattle.tables.specs.Sheet.{lent, counts};
 ghost use Rattle.sievemarl.specs.Packed.{packed};
 ghost use Rattle.sievemarl.specs.ForC.{FillsForC, JudgesForC};
 
+use answers::refused::answer_of;
 use separations::Judged;
-use tables::Counts;
-
-// An answer number as C takes it.
-fn number(answer: u8) -> u32
-    ensures { result ≡ answer }
-{
-    answer as u32
-}
+use tables::{Counts, Tables};
 
 // What judging answers, as one number.
 fn pack(j: Judged) -> u32
     requires { (j.position < 256) × (j.count < 256) }
     ensures { result ≡ packed j }
 {
-    let answer = number(j.answer);
     let position = j.position as u32;
     let count = j.count as u32;
-    answer + 256 * position + 65536 * count
+    j.answer as u32 + 256 * position + 65536 * count
 }
 
 // Fills the flow table, as `flow::fill` does, and returns its answer.
@@ -39,13 +32,17 @@ pub extern "C" fn sievemarl_fill_flow(
 ) -> u32
     ensures { FillsForC (lent (counts subjects objects roles) assignment.now permission.now) flow.old (result, flow.new) }
 {
-    let c = Counts {
-        subjects,
-        objects,
-        roles,
+    let sheet = Tables {
+        counts: Counts {
+            subjects,
+            objects,
+            roles,
+        },
+        assignment,
+        permission,
     };
-    let answer = flow::fill(c, assignment, permission, flow);
-    number(answer)
+    let number = answer_of(flow::fill(sheet, flow));
+    number as u32
 }
 
 // Judges the separations, as `verdict::judge` does, and returns answer + 256 x position + 65,536 x chain count.
@@ -62,11 +59,15 @@ pub extern "C" fn sievemarl_judge(
 ) -> u32
     ensures { JudgesForC (lent (counts subjects objects roles) assignment.now permission.now) count separations.now chain.old (result, chain.new) }
 {
-    let c = Counts {
-        subjects,
-        objects,
-        roles,
+    let sheet = Tables {
+        counts: Counts {
+            subjects,
+            objects,
+            roles,
+        },
+        assignment,
+        permission,
     };
-    let judged = verdict::judge(c, assignment, permission, count, separations, chain);
+    let judged = Judged::from(verdict::judge(sheet, count, separations, chain));
     pack(judged)
 }

@@ -1,17 +1,20 @@
 // The test face: each public call, exported for the outside tests and the benchmark to link. No part of the delivery: callers in C are
 // handed what `sievemarl` exports.
 //
-// An export can return neither an enum nor a part of a slice. So `compare` tells its order as a number, and `refused_line` and
-// `chosen_row` put the part itself, its place and its length, where the caller says.
+// An export can return neither a `Result` nor a part of a slice. So an answer goes out as its number with its values, `compare` tells its
+// order as a number, and `refused_line` and `chosen_row` put the part itself, its place and its length, where the caller says.
 #![tactic(auto)]
 
+ghost use Rattle.answers.specs.Refused.{told_of};
+ghost use Rattle.tables.specs.Sheet.{tables};
 ghost use Rattle.rehearsal.specs.Calls.{RehearsesFlat, RehearsesRecords, WithLentTally};
 
 use answers::Told;
+use answers::refused::answer_of;
 use questions::Compared;
 use separations::Judged;
 use sheet::Reading;
-use tables::Counts;
+use tables::{Counts, Tables};
 use transfers::{Tally, Transfer};
 
 #[unsafe(no_mangle)]
@@ -21,7 +24,7 @@ pub extern "C" fn testface_read(
     permission: &mut [u8],
     separations: &mut [u8],
 ) -> Reading {
-    sheet::read(text, assignment, permission, separations)
+    Reading::from(sheet::read(text, assignment, permission, separations))
 }
 
 #[unsafe(no_mangle)]
@@ -33,7 +36,12 @@ pub extern "C" fn testface_write(
     separations: &[u8],
     text: &mut [u8],
 ) -> Told {
-    sheet::write(counts, assignment, permission, count, separations, text)
+    let sheet = Tables {
+        counts,
+        assignment,
+        permission,
+    };
+    Told::from(sheet::write(sheet, count, separations, text))
 }
 
 #[unsafe(no_mangle)]
@@ -48,48 +56,52 @@ pub extern "C" fn testface_fill(
     permission: &[u8],
     flow: &mut [u8],
 ) -> u8 {
-    flow::fill(counts, assignment, permission, flow)
+    let sheet = Tables {
+        counts,
+        assignment,
+        permission,
+    };
+    answer_of(flow::fill(sheet, flow))
 }
 
 #[unsafe(no_mangle)]
 pub extern "C" fn testface_flows(n: usize, table: &[u8], x: usize, y: usize) -> Told {
-    questions::flows(n, table, x, y)
+    Told::from(questions::flows(n, table, x, y).map(|yes| yes as usize))
 }
 
 #[unsafe(no_mangle)]
 pub extern "C" fn testface_label(n: usize, table: &[u8], x: usize, label: &mut [u8]) -> Told {
-    questions::label(n, table, x, label)
+    Told::from(questions::label(n, table, x, label))
 }
 
 #[unsafe(no_mangle)]
 pub extern "C" fn testface_class_name(n: usize, table: &[u8], x: usize) -> Told {
-    questions::class_name(n, table, x)
-}
-
-fn told(answer: u8, value: usize) -> Told {
-    Told { answer, value }
+    Told::from(questions::class_name(n, table, x))
 }
 
 // 1 equal, 2 below, 3 above, 4 incomparable.
-#[unsafe(no_mangle)]
-pub extern "C" fn testface_compare(n: usize, table: &[u8], x: usize, y: usize) -> Told {
-    match questions::compare(n, table, x, y) {
-        Compared::Equal => told(0, 1),
-        Compared::Below => told(0, 2),
-        Compared::Above => told(0, 3),
-        Compared::Incomparable => told(0, 4),
-        Compared::Refused(number) => told(number, 0),
+fn order_number(order: Compared) -> usize {
+    match order {
+        Compared::Equal => 1,
+        Compared::Below => 2,
+        Compared::Above => 3,
+        Compared::Incomparable => 4,
     }
 }
 
 #[unsafe(no_mangle)]
+pub extern "C" fn testface_compare(n: usize, table: &[u8], x: usize, y: usize) -> Told {
+    Told::from(questions::compare(n, table, x, y).map(order_number))
+}
+
+#[unsafe(no_mangle)]
 pub extern "C" fn testface_greatest(n: usize, table: &[u8], x: usize) -> Told {
-    questions::greatest(n, table, x)
+    Told::from(questions::greatest(n, table, x))
 }
 
 #[unsafe(no_mangle)]
 pub extern "C" fn testface_effect(n: usize, before: &[u8], after: &[u8], effect: &mut [u8]) -> u8 {
-    effects::effect(n, before, after, effect)
+    answer_of(effects::effect(n, before, after, effect))
 }
 
 #[unsafe(no_mangle)]
@@ -113,7 +125,9 @@ pub extern "C" fn testface_set_assignment(
     r: usize,
     value: u8,
 ) -> u8 {
-    change::set_assignment(counts, assignment, permission, s, r, value)
+    answer_of(change::set_assignment(
+        counts, assignment, permission, s, r, value,
+    ))
 }
 
 #[unsafe(no_mangle)]
@@ -125,7 +139,9 @@ pub extern "C" fn testface_set_permission(
     o: usize,
     mode: u8,
 ) -> u8 {
-    change::set_permission(counts, assignment, permission, r, o, mode)
+    answer_of(change::set_permission(
+        counts, assignment, permission, r, o, mode,
+    ))
 }
 
 #[unsafe(no_mangle)]
@@ -137,7 +153,12 @@ pub extern "C" fn testface_chain(
     y: usize,
     chain: &mut [u8],
 ) -> Told {
-    verdict::chain(counts, assignment, permission, x, y, chain)
+    let sheet = Tables {
+        counts,
+        assignment,
+        permission,
+    };
+    Told::from(verdict::chain(sheet, x, y, chain))
 }
 
 #[unsafe(no_mangle)]
@@ -149,7 +170,12 @@ pub extern "C" fn testface_judge(
     separations: &[u8],
     chain: &mut [u8],
 ) -> Judged {
-    verdict::judge(counts, assignment, permission, count, separations, chain)
+    let sheet = Tables {
+        counts,
+        assignment,
+        permission,
+    };
+    Judged::from(verdict::judge(sheet, count, separations, chain))
 }
 
 #[unsafe(no_mangle)]
@@ -169,9 +195,12 @@ pub extern "C" fn testface_rehearse(
 ) -> Told
     ensures { WithLentTally RehearsesFlat counts assignment permission transfers marks verdicts tally result }
 {
-    rehearsal::rehearse(
-        counts, assignment, permission, transfers, marks, verdicts, tally,
-    )
+    let sheet = Tables {
+        counts,
+        assignment,
+        permission,
+    };
+    Told::from(rehearsal::rehearse(sheet, transfers, marks, verdicts, tally))
 }
 
 #[unsafe(no_mangle)]
@@ -186,12 +215,17 @@ pub extern "C" fn testface_rehearse_records(
 ) -> Told
     ensures { WithLentTally RehearsesRecords counts assignment permission records marks verdicts tally result }
 {
-    rehearsal::rehearse_records(
-        counts, assignment, permission, records, marks, verdicts, tally,
-    )
+    let sheet = Tables {
+        counts,
+        assignment,
+        permission,
+    };
+    Told::from(rehearsal::rehearse_records(
+        sheet, records, marks, verdicts, tally,
+    ))
 }
 
 #[unsafe(no_mangle)]
 pub extern "C" fn testface_report(text: &[u8], out: &mut [u8]) -> Told {
-    report::report(text, out)
+    Told::from(report::report(text, out))
 }
