@@ -15,7 +15,7 @@ use Rattle.transfers.proofs.FlatBytes.{flat_and_back, back_and_flat}
 use Rattle.rehearsal.proofs.Accepted.{entries_refuse_alike}
 
 -- of an outcome only the first refusal and what is done count
-outcome_agrees : {R : Type 0} {refusals refusals' : List Refusal} {refused : ℕ → R} {Done Done' : R → Type 0} {r : R} →
+pub outcome_agrees : {R : Type 0} {refusals refusals' : List Refusal} {refused : ℕ → R} {Done Done' : R → Type 0} {r : R} →
     first_refusal refusals ≡ first_refusal refusals' → (Done r → Done' r) → Outcome refusals refused Done r → Outcome refusals' refused Done' r
 outcome_agrees {refused = refused} e done o =
     record { refusal = λ some. o.refusal (λ none. some (sym e ∙ none)) ∙ ap refused e; done = λ none. done (o.done (e ∙ none)) }

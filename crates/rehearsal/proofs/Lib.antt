@@ -8,5 +8,3 @@ pub mod ShownChain
 pub mod SmallSheet
 pub mod SmallCalls
 pub mod Instances
--- For the proofs of functions.
-pub mod Settled

@@ -1,18 +1,17 @@
 -- The calls of a rehearsal: their refusals, and their contracts.
-use Rattle.std.specs.Prelude.{ℕ, ◌%◌, not, List, [], ◌∷◌, eqb, length}
-use Rattle.answers.specs.declared.Told.{Told}
+use Rattle.std.specs.Prelude.{ℕ, ◌%◌, not, List, [], ◌∷◌, eqb, length, Result}
+use Rattle.answers.specs.declared.refused.Refused.{Refused}
 use Rattle.answers.specs.Sizes.{most_transfers, most_transfer_bytes}
 use Rattle.answers.specs.Call.{Refusal, ◌if◌, ◌then◌, Outcome, Loan, MutLoan}
+use Rattle.answers.specs.Refused.{told_of}
 use Rattle.answers.specs.Rows.{exceeds}
-use Rattle.tables.specs.declared.Counts.{Counts}
-use Rattle.tables.specs.Sheet.{Lent, lent, sheet_in}
+use Rattle.tables.specs.Sheet.{Lent, sheet_in}
 use Rattle.tables.specs.Refusals.{sheet_refusals}
 use Rattle.access.specs.Channel.{Channel}
 use Rattle.transfers.specs.declared.Transfer.{Transfer}
 use Rattle.transfers.specs.declared.Tally.{Tally}
 use Rattle.transfers.specs.Transfers.{flat_transfers, Comes}
-use Rattle.transfers.specs.Rehearse.{Rehearsed, not_rehearsed, Rehearses, tally_refusals, rehearsal_short}
-use Rattle.runs.specs.declared.Tallied.{Tallied}
+use Rattle.transfers.specs.Rehearse.{Rehearsed, rehearsed_with, not_rehearsed, Rehearses, tally_refusals, rehearsal_short}
 
 -- "5 above 12,288 bytes"; "then 10, 15, 17 or the call's own"; "15 | a flat transfer list whose length is not a multiple of 3"
 unfoldable pub rehearse_refusals : Lent → List ℕ → List ℕ → List ℕ → Tally → List Refusal
@@ -39,25 +38,16 @@ RehearsesRecords l transfers marks verdicts t =
     (Rehearses (Comes l.counts (Channel (sheet_in l))) transfers marks verdicts t)
 
 -- ---- what a call leaves
--- what a call with its tally by value returns, and what it leaves
-abbrev pub rehearsed_to : Tallied → List ℕ → List ℕ → Rehearsed
-rehearsed_to r marks verdicts =
-    record { answer = r.told.answer; applied = r.told.value; marks = marks; verdicts = verdicts; tally = r.tally }
-
--- the same of a call with a lent tally
-abbrev pub rehearsed_with : Told → List ℕ → List ℕ → Tally → Rehearsed
-rehearsed_with r marks verdicts t = record { answer = r.answer; applied = r.value; marks = marks; verdicts = verdicts; tally = t }
-
 -- of a call with its tally by value
 abbrev pub WithTally : {T : Type 0} → (Lent → List T → List ℕ → List ℕ → Tally → Rehearsed → Type 0) →
-    Counts → (assignment permission : Loan (List ℕ)) → Loan (List T) → (marks verdicts : MutLoan (List ℕ)) → Tally → Tallied → Type 0
-WithTally Call counts assignment permission transfers marks verdicts tally r =
-    Call (lent counts assignment.entry.now permission.entry.now) transfers.entry.now marks.entry.now verdicts.entry.now
-    tally (rehearsed_to r marks.exit.now verdicts.exit.now)
+    Lent → Loan (List T) → (marks verdicts : MutLoan (List ℕ)) → Tally → Result ℕ Refused × Tally → Type 0
+WithTally Call l transfers marks verdicts tally r =
+    Call l transfers.entry.now marks.entry.now verdicts.entry.now
+    tally (rehearsed_with (told_of r.0) marks.exit.now verdicts.exit.now r.1)
 
 -- of a call with a lent tally
 abbrev pub WithLentTally : {T : Type 0} → (Lent → List T → List ℕ → List ℕ → Tally → Rehearsed → Type 0) →
-    Counts → (assignment permission : Loan (List ℕ)) → Loan (List T) → (marks verdicts : MutLoan (List ℕ)) → MutLoan Tally → Told → Type 0
-WithLentTally Call counts assignment permission transfers marks verdicts tally r =
-    Call (lent counts assignment.entry.now permission.entry.now) transfers.entry.now marks.entry.now verdicts.entry.now
-    tally.entry.now (rehearsed_with r marks.exit.now verdicts.exit.now tally.exit.now)
+    Lent → Loan (List T) → (marks verdicts : MutLoan (List ℕ)) → MutLoan Tally → Result ℕ Refused → Type 0
+WithLentTally Call l transfers marks verdicts tally r =
+    Call l transfers.entry.now marks.entry.now verdicts.entry.now
+    tally.entry.now (rehearsed_with (told_of r) marks.exit.now verdicts.exit.now tally.exit.now)

@@ -1,9 +1,13 @@
 -- The flat bytes of transfer records: three each, and read back they are the records.
-use Prim.Native.Nat.{ℕ, zero, suc, ◌+◌, ◌*◌, ◌/◌, ◌%◌, ◌<◌}
+use Prim.Native.Nat.{ℕ, zero, suc, ◌+◌, ◌*◌, ◌/◌, ◌%◌, ◌≤◌, ◌<◌}
 use native.Mathlib.Omega.{arith}
 use mathlib.Core.Path.{◌≡◌, refl, ap}
 use mathlib.Core.List.{List, [], ◌∷◌}
+use mathlib.Core.Bool.{false}
 use lib.ListN.{length, get_or}
+use borrow.Author.Tests.{ltb-false}
+use Rattle.answers.specs.Sizes.{most_transfers, most_transfer_bytes}
+use Rattle.answers.specs.Rows.{exceeds}
 use Rattle.transfers.specs.declared.Transfer.{Transfer}
 use Rattle.transfers.specs.Transfers.{transfer, flat_transfers, flat_bytes}
 
@@ -32,6 +36,10 @@ transfers_length [] = refl
 transfers_length (s ∷ []) = refl
 transfers_length (s ∷ o ∷ []) = refl
 transfers_length (s ∷ o ∷ m ∷ bytes) = omega (arith, transfers_length bytes)
+
+-- bytes that are not over their size are few transfers
+pub few_transfers : (bytes : List ℕ) → exceeds (length bytes) most_transfer_bytes ≡ false → length (flat_transfers bytes) ≤ most_transfers
+few_transfers bytes e = omega (arith, transfers_length bytes, ltb-false most_transfer_bytes (length bytes) e)
 
 -- each is read from three bytes, whatever stands past the end
 pub transfers_at : (bytes : List ℕ) (k : ℕ) (d : Transfer) → k * 3 + 2 < length bytes →

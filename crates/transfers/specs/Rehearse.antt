@@ -1,5 +1,6 @@
 -- The rehearsal of a list of transfers: what it answers and leaves, and what it refuses of a tally.
 use Rattle.std.specs.Prelude.{ℕ, ◌+◌, ◌≡◌, Bool, ◌||◌, List, [], ◌∷◌, ltb}
+use Rattle.answers.specs.declared.Told.{Told}
 use Rattle.answers.specs.Sizes.{least_marks, least_verdicts}
 use Rattle.answers.specs.Call.{Refusal, ◌if◌}
 use Rattle.answers.specs.Rows.{over, count, exceeds}
@@ -34,6 +35,10 @@ pub record Rehearsed : Type 0 where
 -- "Every refusal changes no lent byte, number or tally"
 abbrev pub not_rehearsed : List ℕ → List ℕ → Tally → ℕ → Rehearsed
 not_rehearsed marks verdicts t n = record { answer = n; applied = 0; marks = marks; verdicts = verdicts; tally = t }
+
+-- what a call answers, and what it leaves
+abbrev pub rehearsed_with : Told → List ℕ → List ℕ → Tally → Rehearsed
+rehearsed_with r marks verdicts t = record { answer = r.answer; applied = r.value; marks = marks; verdicts = verdicts; tally = t }
 
 -- "The result gives the count applied": how many verdict bytes are 0
 unfoldable pub rehearsed : List Act → List ℕ → List ℕ → Tally → Rehearsed

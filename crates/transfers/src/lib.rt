@@ -20,7 +20,7 @@ pub struct Transfer {
 
 // The running counts of the verdict bytes 0, 10 and 16.
 #[repr(C)]
-#[derive(Clone, Copy)]
+#[derive(Clone, Copy, Default)]
 pub struct Tally {
     pub applied: u32,
     pub outside: u32,
