@@ -7,8 +7,8 @@ use std::io::{self, Write};
 // Writes the whole output for a text.
 fn print<W: Write>(output: &mut W, text: &[u8]) -> io::Result<()> {
     let mut out = [0u8; report::LEAST_OUTPUT];
-    let told = report::report(text, &mut out);
-    let size = told.value;
+    // no text is refused: the buffer is long enough
+    let size = report::report(text, &mut out).unwrap();
     output.write_all(&out[..size])
 }
 

@@ -4,22 +4,25 @@
 
 ghost use Rattle.std.specs.Prelude.{◌*◌, ◌≤◌, length};
 
+use answers::refused::{Refused, answer_of};
+use answers::sizes;
 use std::io;
-use tables::Counts;
+use tables::{Counts, Tables};
 use transfers::Tally;
 
-fn print(rt: &impl Print, what: &str, answer: u8) -> io::Result<()> {
-    println!(rt; "{what}: {answer}")
+fn print(rt: &impl Print, what: &str, answer: Result<(), Refused>) -> io::Result<()> {
+    let number = answer_of(answer);
+    println!(rt; "{what}: {number}")
 }
 
 // ---- reading
 
-fn read(text: &[u8]) -> u8 {
-    let mut assignment = [0u8; 2304];
-    let mut permission = [0u8; 3072];
-    let mut separations = [0u8; 128];
-    let r = sheet::read(text, &mut assignment, &mut permission, &mut separations);
-    r.answer
+fn read(text: &[u8]) -> Result<(), Refused> {
+    let mut assignment = [0; sizes::LEAST_ASSIGNMENT];
+    let mut permission = [0; sizes::LEAST_PERMISSION];
+    let mut separations = [0; sizes::LEAST_SEPARATIONS];
+    let read = sheet::read(text, &mut assignment, &mut permission, &mut separations);
+    read.map(|_| ()).map_err(|refused| refused.why)
 }
 
 // The text of nine subjects with so many separations, ascending, each otherwise sound.
@@ -36,13 +39,13 @@ fn put_separations(count: usize, text: &mut [u8])
     digits::put_line(text, 9 + 7 * count, &end);
 }
 
-fn read_start(text: &[u8], size: usize) -> u8
+fn read_start(text: &[u8], size: usize) -> Result<(), Refused>
     requires { size ≤ length text.now }
 {
     read(&text[..size])
 }
 
-fn read_separations(count: usize) -> u8
+fn read_separations(count: usize) -> Result<(), Refused>
     requires { count ≤ 65 }
 {
     let mut text = [0u8; 512];
@@ -52,35 +55,27 @@ fn read_separations(count: usize) -> u8
 
 // ---- rehearsals
 
-fn rehearse(transfers: &[u8], applied: u32) -> u8 {
-    let none = Counts {
-        subjects: 0,
-        objects: 0,
-        roles: 0,
+fn rehearse(transfers: &[u8], applied: u32) -> Result<(), Refused> {
+    let nothing = Tables {
+        counts: Counts {
+            subjects: 0,
+            objects: 0,
+            roles: 0,
+        },
+        assignment: &[0; sizes::LEAST_ASSIGNMENT],
+        permission: &[0; sizes::LEAST_PERMISSION],
     };
-    let tally = Tally {
+    let mut tally = Tally {
         applied,
         outside: 0,
         barred: 0,
     };
-    let assignment = [0u8; 2304];
-    let permission = [0u8; 3072];
-    let mut marks = [0u32; 112];
-    let mut verdicts = [0u8; 4096];
-    let r = rehearsal::rehearse_tallied(
-        none,
-        &assignment,
-        &permission,
-        transfers,
-        &mut marks,
-        &mut verdicts,
-        tally,
-    );
-    let told = r.told;
-    told.answer
+    let mut marks = [0; sizes::LEAST_MARKS];
+    let mut verdicts = [0; sizes::LEAST_VERDICTS];
+    rehearsal::rehearse(nothing, transfers, &mut marks, &mut verdicts, &mut tally).map(|_| ())
 }
 
-fn rehearse_start(list: &[u8], transfers: usize) -> u8
+fn rehearse_start(list: &[u8], transfers: usize) -> Result<(), Refused>
     requires { 3 * transfers ≤ length list.now }
 {
     rehearse(&list[..3 * transfers], 0)

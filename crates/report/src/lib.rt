@@ -3,7 +3,8 @@
 
 ghost use Rattle.std.specs.Prelude.{◌∷◌, ◌+◌, ◌*◌, ◌<◌, ◌≤◌, length, take};
 ghost use Rattle.answers.specs.Rows.{Bytes};
-ghost use Rattle.tables.specs.Sheet.{lent};
+ghost use Rattle.answers.specs.Refused.{number, told_of};
+ghost use Rattle.tables.specs.Sheet.{lent_by};
 ghost use Rattle.theory.specs.Order.{LabelSize};
 ghost use Rattle.digits.specs.Line.{line_of};
 ghost use Rattle.digits.specs.Inner.{Put};
@@ -12,8 +13,11 @@ ghost use Rattle.report.specs.Report.{least_output, Reports};
 ghost use Rattle.report.specs.Inner.{PutLine, PutOutput, Describable, Printable, PutVerdict, PutSheet};
 ghost use Rattle.tables.specs.FlowTable.{SoundFlow};
 
-use answers::{Told, sizes};
-use tables::Counts;
+use answers::refused::Refused;
+use answers::{Square, sizes};
+use frames::RefusedText;
+use separations::Finding;
+use tables::Tables;
 
 pub const LEAST_OUTPUT: usize = 1435;
 
@@ -26,147 +30,127 @@ const VERDICT: u8 = 0x82;
 // ---- a line for each entity
 
 // How many entities the label of `x` has.
-fn label_size(n: usize, table: &[u8], x: usize) -> usize
-    requires { SoundFlow n table.now × (x < n) }
-    ensures { LabelSize n (Bytes n table.now) x result }
+fn label_size(table: Square, x: usize) -> usize
+    requires { SoundFlow table.n table.bytes.now × (x < table.n) }
+    ensures { LabelSize table.entry.n (Bytes table.entry.n table.entry.bytes.now) x result }
 {
-    let mut label = [0u8; sizes::LEAST_LABEL];
-    labels::fill_label(n, table, x, &mut label)
+    let mut label = [0; sizes::LEAST_LABEL];
+    labels::fill_label(table, x, &mut label)
 }
 
 // The line of entity `x` by the flow table; the answer is the place past it.
-fn put_entity(out: &mut [u8], at: usize, n: usize, table: &[u8], x: usize) -> usize
-    requires { Describable n table.now x at out.old }
-    ensures { PutLine (EntityLine n (Bytes n table.now) x) at out.old result out.new }
+fn put_entity(out: &mut [u8], at: usize, table: Square, x: usize) -> usize
+    requires { Describable table.n table.bytes.now x at out.old }
+    ensures { PutLine (EntityLine table.entry.n (Bytes table.entry.n table.entry.bytes.now) x) at out.old result out.new }
 {
-    let class = labels::smallest_member(n, table, x);
-    let flags = labels::flags(n, table, x);
-    let size = label_size(n, table, x);
+    let class = labels::smallest_member(table, x);
+    let flags = labels::flags(table, x);
+    let size = label_size(table, x);
     let line = [ENTITY, x as u8, class as u8, flags as u8, size as u8];
     digits::put_line(out, at, &line)
 }
 
 // The lines of all entities, at the start of the buffer.
-fn put_entities(out: &mut [u8], n: usize, table: &[u8]) -> usize
-    requires { SoundFlow n table.now × (11 * n ≤ length out.old) }
-    ensures { PutOutput (EntityLines n (Bytes n table.now) n) out.old result out.new }
+fn put_entities(out: &mut [u8], table: Square) -> usize
+    requires { SoundFlow table.n table.bytes.now × (11 * table.n ≤ length out.old) }
+    ensures { PutOutput (EntityLines table.entry.n (Bytes table.entry.n table.entry.bytes.now) table.entry.n) out.old result out.new }
 {
     let mut at = 0;
-    let mut x = 0;
-    while x < n {
-        at = put_entity(out, at, n, table, x);
-        x += 1;
+    for x in 0..table.n {
+        at = put_entity(out, at, table, x);
     }
     at
 }
 
 // ---- the line of the verdict
 
-// The line of a broken separation, with the chain of `count` entities.
-fn put_broken(out: &mut [u8], at: usize, position: usize, count: usize, chain: &[u8]) -> usize
-    requires { (position < 256) × (count ≤ 97) × (count ≤ length chain.now) × (at + 203 ≤ length out.old) }
-    ensures { Put (line_of (0x82 ∷ 1 ∷ position ∷ count ∷ take count chain.now)) at out.old result out.new }
+// The line of a broken separation, with its chain.
+fn put_broken(out: &mut [u8], at: usize, finding: Finding, chain: &[u8]) -> usize
+    requires { (finding.position < 256) × (finding.count ≤ 97) × (finding.count ≤ length chain.now) × (at + 203 ≤ length out.old) }
+    ensures { Put (line_of (0x82 ∷ 1 ∷ finding.position ∷ finding.count ∷ take finding.count chain.now)) at out.old result out.new }
 {
-    let head = [VERDICT, 1, position as u8, count as u8];
+    let head = [VERDICT, 1, finding.position as u8, finding.count as u8];
     let end = digits::put_bytes(out, at, &head);
-    digits::put_line(out, end, &chain[..count])
+    digits::put_line(out, end, &chain[..finding.count])
 }
 
 // The line of the verdict on a sheet that was accepted.
 fn put_verdict(
-    counts: Counts,
-    assignment: &[u8],
-    permission: &[u8],
+    sheet: Tables,
     count: usize,
     separations: &[u8],
     out: &mut [u8],
     at: usize,
 ) -> usize
-    requires printable { Printable (lent counts assignment.now permission.now) count separations.now }
+    requires printable { Printable (lent_by sheet) count separations.now }
     requires at_in_bounds { at + 203 ≤ length out.old }
-    ensures { PutVerdict (lent counts assignment.now permission.now) count separations.now at out.old result out.new }
+    ensures { PutVerdict (lent_by sheet.entry) count separations.now at out.old result out.new }
 {
-    let mut chain = [0u8; sizes::LEAST_CHAIN];
-    let judged = verdict::judge(
-        counts,
-        assignment,
-        permission,
-        count,
-        separations,
-        &mut chain,
-    );
-    let all_hold = judged.answer == 0;
-    if all_hold {
-        let line = [VERDICT, 0];
-        return digits::put_line(out, at, &line);
+    let mut chain = [0; sizes::LEAST_CHAIN];
+    let judged = verdict::judge(sheet, count, separations, &mut chain);
+    // such a sheet is never refused
+    match judged.unwrap() {
+        None => digits::put_line(out, at, &[VERDICT, 0]),
+        Some(finding) => put_broken(out, at, finding, &chain),
     }
-    put_broken(out, at, judged.position, judged.count, &chain)
 }
 
 // ---- the whole output
 
 // The output for an accepted sheet, at the start of the buffer; the answer is its length.
-fn put_sheet(
-    counts: Counts,
-    assignment: &[u8],
-    permission: &[u8],
-    count: usize,
-    separations: &[u8],
-    out: &mut [u8],
-) -> usize
-    requires printable { Printable (lent counts assignment.now permission.now) count separations.now }
+fn put_sheet(sheet: Tables, count: usize, separations: &[u8], out: &mut [u8]) -> usize
+    requires printable { Printable (lent_by sheet) count separations.now }
     requires least_output_in_bounds { least_output ≤ length out.old }
-    ensures { PutSheet (lent counts assignment.now permission.now) count separations.now out.old result out.new }
+    ensures { PutSheet (lent_by sheet.entry) count separations.now out.old result out.new }
 {
-    let n = counts.subjects + counts.objects;
-    let mut table = [0u8; sizes::LEAST_FLOW];
-    flow::fill(counts, assignment, permission, &mut table);
-    let end = put_entities(out, n, &table);
-    put_verdict(counts, assignment, permission, count, separations, out, end)
+    let mut flows = [0; sizes::LEAST_FLOW];
+    // such a sheet is never refused
+    flow::fill(sheet, &mut flows).unwrap();
+    let table = Square {
+        n: sheet.counts.entities(),
+        bytes: &flows,
+    };
+    let end = put_entities(out, table);
+    put_verdict(sheet, count, separations, out, end)
 }
 
 // The output for a refused text: its number, and its line, the high byte first.
-fn put_refusal(out: &mut [u8], number: u8, line: usize) -> usize
-    requires { (line < 65536) × (9 ≤ length out.old) }
-    ensures { Put (refusal_line number line) 0 out.old result out.new }
+fn put_refusal(out: &mut [u8], refused: RefusedText) -> usize
+    requires { (refused.line < 65536) × (9 ≤ length out.old) }
+    ensures { Put (refusal_line (number refused.why) refused.line) 0 out.old result out.new }
 {
-    let bytes = [REFUSED, number, (line / 256) as u8, (line % 256) as u8];
+    let line = refused.line;
+    let bytes = [
+        REFUSED,
+        refused.why as u8,
+        (line / 256) as u8,
+        (line % 256) as u8,
+    ];
     digits::put_line(out, 0, &bytes)
 }
 
-// Writes the whole output for a text at the start of `out`: the answer, and the output's length. Refuses with 1 if `out` has fewer
-// than 1,435 bytes, and then changes nothing.
-pub fn report(text: &[u8], out: &mut [u8]) -> Told
-    ensures { Reports text.now out.old (result, out.new) }
+// Writes the whole output for a text at the start of `out`, and tells the output's length. Refuses with 1 if `out` has fewer than 1,435
+// bytes, and then changes nothing.
+pub fn report(text: &[u8], out: &mut [u8]) -> Result<usize, Refused>
+    ensures { Reports text.now out.old (told_of result, out.new) }
 {
     if out.len() < LEAST_OUTPUT {
-        return Told {
-            answer: 1,
-            value: 0,
-        };
+        return Err(Refused::ShortBuffer);
     }
-    let mut assignment = [0u8; sizes::LEAST_ASSIGNMENT];
-    let mut permission = [0u8; sizes::LEAST_PERMISSION];
-    let mut separations = [0u8; sizes::LEAST_SEPARATIONS];
-    let reading = sheet::read(text, &mut assignment, &mut permission, &mut separations);
-    if reading.answer != 0 {
-        let size = put_refusal(out, reading.answer, reading.line);
-        return Told {
-            answer: 0,
-            value: size,
-        };
-    }
-    let counts = reading.counts;
-    let size = put_sheet(
-        counts,
-        &assignment,
-        &permission,
-        reading.separations,
-        &separations,
-        out,
-    );
-    Told {
-        answer: 0,
-        value: size,
-    }
+    let mut assignment = [0; sizes::LEAST_ASSIGNMENT];
+    let mut permission = [0; sizes::LEAST_PERMISSION];
+    let mut separations = [0; sizes::LEAST_SEPARATIONS];
+    let read = sheet::read(text, &mut assignment, &mut permission, &mut separations);
+    let size = match read {
+        Err(refused) => put_refusal(out, refused),
+        Ok(accepted) => {
+            let sheet = Tables {
+                counts: accepted.counts,
+                assignment: &assignment,
+                permission: &permission,
+            };
+            put_sheet(sheet, accepted.separations, &separations, out)
+        }
+    };
+    Ok(size)
 }

@@ -2,13 +2,10 @@
 // entity whose label the change alters.
 #![tactic(auto)]
 
-ghost use Rattle.std.specs.Prelude.{◌≤◌};
-ghost use Rattle.answers.specs.Sizes.{most_entities};
-ghost use Rattle.tables.specs.Sheet.{entities};
-
+use answers::refused::Refused;
 use answers::sizes;
 use std::io;
-use tables::Counts;
+use tables::{Counts, Tables};
 
 // The question: role 1 may no longer read object 0. A mode is 0 none, 1 read, 2 write, 3 both.
 const ROLE: usize = 1;
@@ -30,56 +27,61 @@ fn print_effect(rt: &impl Print, x: usize, effect: u8) -> io::Result<()> {
 
 // Looks at all bytes: those past the last entity stay 0.
 fn print_effects(rt: &impl Print, effect: &[u8]) -> io::Result<()> {
-    for x in 0..effect.len() {
-        print_effect(rt, x, effect[x])?;
+    for (x, byte) in effect.iter().enumerate() {
+        print_effect(rt, x, *byte)?;
     }
     Ok(())
 }
 
-// Fills the flow table of the changed sheet, and compares it with the one before.
-fn compare(
-    rt: &impl Print,
-    counts: Counts,
-    assignment: &[u8],
-    permission: &[u8],
-    before: &[u8],
-) -> io::Result<()>
-    requires { entities counts ≤ most_entities }
-{
-    let mut after = [0u8; sizes::LEAST_FLOW];
-    let mut effect = [0u8; sizes::LEAST_EFFECT];
-    flow::fill(counts, assignment, permission, &mut after);
-    let n = counts.subjects + counts.objects;
-    effects::effect(n, before, &after, &mut effect);
-    print_effects(rt, &effect)
-}
-
-// Fills the flow table of a sheet, changes the sheet, and compares.
+// Changes the sheet, and writes what that does to each label, by its flow tables before and after.
 fn ask(
-    rt: &impl Print,
     counts: Counts,
     assignment: &[u8],
     permission: &mut [u8],
-) -> io::Result<()> {
-    let mut before = [0u8; sizes::LEAST_FLOW];
-    flow::fill(counts, assignment, permission, &mut before);
-    let answer = change::set_permission(counts, assignment, permission, ROLE, OBJECT, MODE);
-    if answer != 0 {
-        return println!(rt; "the change is refused: {answer}");
-    }
-    compare(rt, counts, assignment, permission, &before)
+    effect: &mut [u8],
+) -> Result<(), Refused> {
+    let mut before = [0; sizes::LEAST_FLOW];
+    let mut after = [0; sizes::LEAST_FLOW];
+    fill(counts, assignment, permission, &mut before)?;
+    change::set_permission(counts, assignment, permission, ROLE, OBJECT, MODE)?;
+    fill(counts, assignment, permission, &mut after)?;
+    effects::effect(counts.entities(), &before, &after, effect)
+}
+
+fn fill(
+    counts: Counts,
+    assignment: &[u8],
+    permission: &[u8],
+    flow: &mut [u8],
+) -> Result<(), Refused> {
+    let sheet = Tables {
+        counts,
+        assignment,
+        permission,
+    };
+    flow::fill(sheet, flow)
 }
 
 fn read_and_ask(rt: &impl Print, text: &[u8]) -> io::Result<()> {
-    let mut assignment = [0u8; sizes::LEAST_ASSIGNMENT];
-    let mut permission = [0u8; sizes::LEAST_PERMISSION];
-    let mut separations = [0u8; sizes::LEAST_SEPARATIONS];
-    let reading = sheet::read(text, &mut assignment, &mut permission, &mut separations);
-    if reading.answer != 0 {
-        let number = reading.answer;
-        return println!(rt; "the sheet is refused: {number}");
+    let mut assignment = [0; sizes::LEAST_ASSIGNMENT];
+    let mut permission = [0; sizes::LEAST_PERMISSION];
+    let mut separations = [0; sizes::LEAST_SEPARATIONS];
+    let read = sheet::read(text, &mut assignment, &mut permission, &mut separations);
+    let accepted = match read {
+        Ok(accepted) => accepted,
+        Err(refused) => {
+            let number = refused.why as u8;
+            return println!(rt; "the sheet is refused: {number}");
+        }
+    };
+    let mut effect = [0; sizes::LEAST_EFFECT];
+    match ask(accepted.counts, &assignment, &mut permission, &mut effect) {
+        Ok(()) => print_effects(rt, &effect),
+        Err(why) => {
+            let number = why as u8;
+            println!(rt; "the change is refused: {number}")
+        }
     }
-    ask(rt, reading.counts, &assignment, &mut permission)
 }
 
 // One byte more than a text may have, so that a longer one is refused.
