@@ -1,5 +1,5 @@
 -- Pairs of digits by their place in a line: for a loop over the pairs, and for the byte of a pair.
-use Prim.Native.Nat.{ℕ, zero, suc, ◌+◌, ◌*◌, ◌%◌, ◌≤◌, ◌<◌}
+use Prim.Native.Nat.{ℕ, zero, suc, ◌+◌, ◌*◌, ◌/◌, ◌%◌, ◌≤◌, ◌<◌}
 use mathlib.Core.Path.{◌≡◌, refl, sym, ◌∙◌}
 use mathlib.Core.Bool.{true, false, ◌&&◌, false≢true}
 use mathlib.Core.List.{List, [], ◌∷◌}
@@ -44,8 +44,11 @@ pairs_after (suc n) l e h =
     let i : suc n + suc n ≡ n + n + 2 = omega arith in
     rw i (pairs_split l (n + n) (pairs_after n l e (omega arith)) (omega arith)).1
 
-pub digits_at : (n : ℕ) (l : List ℕ) → digit_pairs l ≡ true → suc (n + n) < length l → DigitsAt l (n + n)
-digits_at n l e h = (pairs_split l (n + n) (pairs_after n l e (omega arith)) h).0
+pub digits_at : (l : List ℕ) (i : ℕ) → digit_pairs l ≡ true → i % 2 ≡ 0 → i + 1 < length l → DigitsAt l i
+digits_at l i e even h =
+    let n : ℕ = i / 2 in
+    let twice : i ≡ n + n = omega arith in
+    rw twice (pairs_split l (n + n) (pairs_after n l e (omega arith)) (omega arith)).0
 
 pub bytes_at : (l : List ℕ) (i : ℕ) → suc i < length l → to_bytes (drop i l) ≡ byte_at l i ∷ to_bytes (drop (i + 2) l)
 unfolding to_bytes byte_at
