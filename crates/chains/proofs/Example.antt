@@ -1,6 +1,7 @@
 -- One channel, from 0 to 1, said in two ways: what is shown of one relation is shown of the other, and nothing else is.
-use Prim.Native.Nat.{ℕ}
+use Prim.Native.Nat.{ℕ, ◌<◌}
 use mathlib.Core.Path.{◌≡◌, refl}
+use Rattle.std.specs.Prelude.{Option, Some, None}
 use mathlib.Core.List.{List, [], ◌∷◌}
 use native.Mathlib.Omega.{arith}
 use Rattle.answers.specs.Rows.{over}
@@ -8,7 +9,7 @@ use Rattle.theory.specs.Flow.{Flow}
 use Rattle.theory.proofs.Flows.{flow_closed}
 use Rattle.theory.proofs.Chains.{best_alone}
 use Rattle.chains.specs.Shown.{ShownChain, shown, missing}
-use Rattle.chains.proofs.Relations.{chain_agrees, one_shown}
+use Rattle.chains.proofs.Relations.{chain_agrees, one_shown, some_shown}
 use Rattle.theory.specs.Laws.{Contains}
 
 data Hop : ℕ → ℕ → Type 0 where
@@ -24,7 +25,7 @@ back : Contains Hop Pair
 back a b (p, q) = rw p (rw q hop)
 
 -- from 1 to 1 it is 1 alone, and the rest of the buffer stays
-alone : ShownChain Hop 1 1 (9 ∷ 9 ∷ []) (1 ∷ 9 ∷ []) 1
+alone : ShownChain Hop 1 1 (9 ∷ 9 ∷ []) (1 ∷ 9 ∷ []) (Some 1)
 unfolding over
 alone = shown (1 ∷ []) best_alone refl refl
 
@@ -35,15 +36,18 @@ none_back f = omega (arith, flow_closed (λ z. z ≡ 1) refl (λ a b h c. stays 
     stays : (a b : ℕ) → a ≡ 1 → Hop a b → b ≡ 1
     stays _ _ h hop = refl
 
-nothing : ShownChain Hop 1 0 (9 ∷ 9 ∷ []) (9 ∷ 9 ∷ []) 0
+nothing : ShownChain Hop 1 0 (9 ∷ 9 ∷ []) (9 ∷ 9 ∷ []) None
 nothing = missing none_back refl refl
 
 -- the laws at both
-alone_too : ShownChain Pair 1 1 (9 ∷ 9 ∷ []) (1 ∷ 9 ∷ []) 1
+alone_too : ShownChain Pair 1 1 (9 ∷ 9 ∷ []) (1 ∷ 9 ∷ []) (Some 1)
 alone_too = chain_agrees to back alone
 
-nothing_too : ShownChain Pair 1 0 (9 ∷ 9 ∷ []) (9 ∷ 9 ∷ []) 0
+nothing_too : ShownChain Pair 1 0 (9 ∷ 9 ∷ []) (9 ∷ 9 ∷ []) None
 nothing_too = chain_agrees to back nothing
 
-only : {after : List ℕ} {count : ℕ} → ShownChain Hop 1 1 (9 ∷ 9 ∷ []) after count → (1 ≡ count) × (1 ∷ 9 ∷ [] ≡ after)
+only : {after : List ℕ} {count : Option ℕ} → ShownChain Hop 1 1 (9 ∷ 9 ∷ []) after count → (Some 1 ≡ count) × (1 ∷ 9 ∷ [] ≡ after)
 only c = one_shown alone c
+
+some : 0 < 1
+some = some_shown alone

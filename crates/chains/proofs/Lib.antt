@@ -1,7 +1,4 @@
 -- Laws for the proofs of functions, and of relations with the same pairs.
-pub mod Counts
-pub mod AllBut
-pub mod Scans
 pub mod Distances
 pub mod Rounds
 pub mod Measures
