@@ -37,15 +37,16 @@ impl RoleList {
         ensures { RolesOf (lent_by sheet.entry) s result }
     {
         let base = s * sheet.counts.roles;
-        let mut list = RoleList::EMPTY;
+        let mut places = [0; sizes::MOST_ROLES];
+        let mut count = 0;
         for role in 0..sheet.counts.roles {
             let assigned = sheet.assignment[base + role] == ASSIGNED;
             if assigned {
-                list.places[list.count] = role as u8;
-                list.count += 1;
+                places[count] = role as u8;
+                count += 1;
             }
         }
-        list
+        RoleList { places, count }
     }
 }
 

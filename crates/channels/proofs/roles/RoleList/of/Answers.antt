@@ -14,16 +14,19 @@ loop-role-init c = record { few = omega arith; places = refl; all = pass_none _ 
 pub loop-role-preserved : goal.loop-role-preserved
 loop-role-preserved c =
     let inv = c.loop-role.invariant in
-    let list = c.loop-role.list in
+    let places = c.loop-role.places in
+    let count = c.loop-role.count in
     let role = c.loop-role.role in
     elim c.if-assigned.branch [
       | then-assigned w ↦
-          let inside : list.count < length list.places = omega arith in
-          rw w.list-is
+          let inside : count < length places = omega arith in
+          rw (w.places-is, w.count-is)
           (record {
             few = omega arith;
-            places = length-set list.places list.count role ∙ inv.places;
-            all = take_more_set list.places list.count role inside ∙ ap (λ k. k ++ (role ∷ [])) inv.all ∙ sym (pass_one _ role (eq-eqb _ _ w.if-assigned.true));
+            places = length-set places count role ∙ inv.places;
+            all = take_more_set places count role inside ∙ ap (λ k. k ++ (role ∷ [])) inv.all ∙ sym (pass_one _ role (eq-eqb _ _ w.if-assigned.true));
           })
-      | else-assigned w ↦ rw w.list-is (record { few = omega arith; places = inv.places; all = inv.all ∙ sym (pass_over _ role (ne_eqb _ _ w.if-assigned.false)) })
+      | else-assigned w ↦
+          rw (w.places-is, w.count-is)
+          (record { few = omega arith; places = inv.places; all = inv.all ∙ sym (pass_over _ role (ne_eqb _ _ w.if-assigned.false)) })
     ]
