@@ -46,23 +46,23 @@ pub record Few (n : ℕ) (t : Tally) : Type 0 where
   pub outside : t.outside ≤ n
   pub barred : t.barred ≤ n
 
-module _ {c : Counts} {ch : ℕ → ℕ → Type 0} {ts : List Transfer} {marks verdicts marks' verdicts' : List ℕ} {counts : Tally} where
-  pub ran_few : Ran c ch ts marks verdicts marks' verdicts' counts → Few (length ts) counts
+module _ {c : Counts} {n : ℕ} {channels : List ℕ} {ts : List Transfer} {marks verdicts marks' verdicts' : List ℕ} {counts : Tally} where
+  pub ran_few : Ran c n channels ts marks verdicts marks' verdicts' counts → Few (length ts) counts
   ran_few r =
       let within : (v : ℕ) → count v (verdict_bytes r.acts) ≤ length ts = λ v. omega (arith, come_length r.come, count_within v (verdict_bytes r.acts)) in
       rw r.counts_are (record { applied = within 0; outside = within 10; barred = within 16 })
 
 -- ---- one transfer more
-module _ {c : Counts} {ch : ℕ → ℕ → Type 0} {marks verdicts : List ℕ} where
-  pub ran_none : {counts : Tally} → counts ≡ tally 0 0 0 → Ran c ch [] marks verdicts marks verdicts counts
+module _ {c : Counts} {n : ℕ} {channels : List ℕ} {marks verdicts : List ℕ} where
+  pub ran_none : {counts : Tally} → counts ≡ tally 0 0 0 → Ran c n channels [] marks verdicts marks verdicts counts
   unfolding after verdict_bytes over count
   ran_none e = record { acts = []; come = none; marks_are = refl; verdicts_are = refl; counts_are = e }
 
   module _ (ts : List Transfer) (d : Transfer) (k : ℕ) {marks' verdicts' marks'' verdicts'' : List ℕ} {counts counts' : Tally} where
     -- d is what would be read past the list's end
-    pub ran_more : k < length ts → k < length verdicts → Ran c ch (take k ts) marks verdicts marks' verdicts' counts →
-        Stepped c ch (get_or ts k d) k (state_of marks' verdicts' counts) (state_of marks'' verdicts'' counts') →
-        Ran c ch (take (k + 1) ts) marks verdicts marks'' verdicts'' counts'
+    pub ran_more : k < length ts → k < length verdicts → Ran c n channels (take k ts) marks verdicts marks' verdicts' counts →
+        Stepped c (Bytes n channels) (get_or ts k d) k (state_of marks' verdicts' counts) (state_of marks'' verdicts'' counts') →
+        Ran c n channels (take (k + 1) ts) marks verdicts marks'' verdicts'' counts'
     unfolding noted
     ran_more inside room r made =
         let size : length (verdict_bytes r.acts) ≡ k = come_length r.come ∙ length-take-le k ts (omega arith) in
@@ -80,7 +80,7 @@ module _ {c : Counts} {ch : ℕ → ℕ → Type 0} {marks verdicts : List ℕ} 
 -- ---- when all are made
 -- by the bytes of a table that was filled for the sheet's channels
 pub performed : (l : Lent) {n : ℕ} {ts : List Transfer} {marks verdicts marks' verdicts' before channels : List ℕ} {counts t t' : Tally} → n ≡ entities l.counts →
-    Filled (entities l.counts) (Channel (sheet_in l)) before channels → Ran l.counts (Bytes n channels) ts marks verdicts marks' verdicts' counts →
+    Filled (entities l.counts) (Channel (sheet_in l)) before channels → Ran l.counts n channels ts marks verdicts marks' verdicts' counts →
     t' ≡ raised_by counts t → Performs l ts marks verdicts t (rehearsed_with (told 0 counts.applied) marks' verdicts' t')
 unfolding rehearsed raised
 performed l e filled r raised_is =

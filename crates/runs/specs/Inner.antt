@@ -2,7 +2,7 @@
 use Rattle.std.specs.Prelude.{ℕ, ◌+◌, ◌≤◌, ◌≡◌, Bool, false, List, [], ◌∷◌, length}
 use Rattle.answers.specs.Sizes.{most_transfers, least_marks, least_verdicts}
 use Rattle.answers.specs.Call.{Refusal, ◌if◌, ◌then◌, Outcome}
-use Rattle.answers.specs.Rows.{over, count}
+use Rattle.answers.specs.Rows.{Bytes, over, count}
 use Rattle.tables.specs.declared.Counts.{Counts}
 use Rattle.tables.specs.Sheet.{Lent, sheet_in}
 use Rattle.tables.specs.Refusals.{sheet_refusals, Sized}
@@ -48,10 +48,10 @@ pub record Runnable (n transfers : ℕ) (marks verdicts : List ℕ) : Type 0 whe
   pub placed : transfers ≤ length verdicts
   pub few : transfers ≤ most_transfers
 
--- transfers made
-pub record Ran (c : Counts) (ch : ℕ → ℕ → Type 0) (ts : List Transfer) (marks verdicts marks' verdicts' : List ℕ) (counts : Tally) : Type 0 where
+-- transfers made, by the bytes of a channel table of n rows
+pub record Ran (c : Counts) (n : ℕ) (channels : List ℕ) (ts : List Transfer) (marks verdicts marks' verdicts' : List ℕ) (counts : Tally) : Type 0 where
   pub acts : List Act
-  pub come : AllCome (Comes c ch) ts acts
+  pub come : AllCome (Comes c (Bytes n channels)) ts acts
   pub marks_are : marks' ≡ after acts marks
   pub verdicts_are : verdicts' ≡ over (verdict_bytes acts) verdicts
   pub counts_are : counts ≡ tally (count 0 (verdict_bytes acts)) (count 10 (verdict_bytes acts)) (count 16 (verdict_bytes acts))

@@ -4,7 +4,6 @@
 pub mod lists;
 
 ghost use Rattle.std.specs.Prelude.{◌≡◌, length};
-ghost use Rattle.answers.specs.Rows.{Bytes};
 ghost use Rattle.answers.specs.Call.{first_refusal, told};
 ghost use Rattle.answers.specs.Refused.{code, told_of};
 ghost use Rattle.tables.specs.Sheet.{entities, lent_by};
@@ -50,7 +49,7 @@ fn check<L: TransferList>(
 // Makes the transfers, one after the other, and counts them.
 fn run<L: TransferList>(network: Network, list: L, marks: &mut [u32], verdicts: &mut [u8]) -> Tally
     requires { Runnable (entities network.counts) (length (L.transfers list)) marks.old verdicts.old }
-    ensures { Ran network.entry.counts (Bytes network.entry.channels.n network.entry.channels.bytes.now) (L.transfers list) marks.old verdicts.old marks.new verdicts.new result }
+    ensures { Ran network.entry.counts network.entry.channels.n network.entry.channels.bytes.now (L.transfers list) marks.old verdicts.old marks.new verdicts.new result }
 {
     let mut counts = Tally::default();
     for k in 0..list.count() {

@@ -1,5 +1,5 @@
 // The two forms in which a caller lends transfers.
-ghost use Rattle.std.specs.Prelude.{ℕ, ◌≡◌, ◌<◌, ◌≤◌, ◌%◌, Bool, false, not, List, eqb, length, get_or};
+ghost use Rattle.std.specs.Prelude.{◌≡◌, ◌<◌, ◌≤◌, ◌%◌, Bool, false, not, List, eqb, length, get_or};
 ghost use Rattle.answers.specs.Sizes.{most_transfers, most_transfer_bytes};
 ghost use Rattle.answers.specs.Rows.{exceeds};
 ghost use Rattle.transfers.specs.declared.Transfer.{Transfer};

@@ -1,22 +1,13 @@
 -- `runs::perform` meets its contract: by the bytes of the channel table each transfer comes to what it comes to by the sheet.
-use Rattle.std.proofs.Common.{arith, rules}
+use Rattle.std.proofs.Common.{arith}
 use Rattle.tables.specs.Sheet.{lent_by}
 use Rattle.theory.proofs.Filled.{filled_room}
 use Rattle.runs.proofs.Running.{ran_few, performed}
 use Rattle.runs.proofs.perform.Goals as goal
 
-pub fill_channels-requires : goal.fill_channels-requires
-fill_channels-requires g c = record { sized = c.requires.sized; room = search rules }
-
-pub entities-requires : goal.entities-requires
-entities-requires g c = c.requires.sized.counts_fit
-
 pub invariant_of-channels : goal.invariant_of-channels
 invariant_of-channels g c =
     record { few = omega (arith, c.requires.sized.counts_fit, c.entities.ensures); room = rw c.entities.ensures (filled_room c.fill_channels.ensures) }
-
-pub invariant_of-network : goal.invariant_of-network
-invariant_of-network g c = record { fits = c.requires.sized.counts_fit; of_entities = c.entities.ensures }
 
 pub run-counts-requires : goal.run-counts-requires
 run-counts-requires g c =
