@@ -1,5 +1,4 @@
 -- Laws for the proofs of functions.
-pub mod Answering
-pub mod Gathering
+pub mod Passing
 pub mod Asking
-pub mod Filling
+pub mod Sides

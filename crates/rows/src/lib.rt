@@ -1,110 +1,87 @@
 // The flows of each entity, by any table of channels: a search with a work list.
 #![tactic(auto)]
 
-ghost use Rattle.std.specs.Prelude.{◌≡◌, ◌+◌, ◌*◌, ◌≤◌, ◌<◌, length, replicate};
-ghost use Rattle.answers.specs.Sizes.{most_entities};
+ghost use Rattle.std.specs.Prelude.{◌≡◌, ◌*◌, ◌≤◌, ◌<◌, length};
 ghost use Rattle.answers.specs.Rows.{Bytes};
 ghost use Rattle.rows.specs.Written.{FlowRow, FlowTable};
 ghost use Rattle.rows.specs.Search.{Arranged, SearchBegun, Spread, SearchReached, MarksBefore};
 
-use answers::sizes;
+use answers::Square;
+use answers::sizes::MOST_ENTITIES;
 
-// Puts the entities below n one after the other, x and 0 with their places changed, so that x is first.
-fn arrange(n: usize, x: usize, order: &mut [usize])
-    requires { (x < n) × (n ≤ length order.old) }
-    ensures { SearchBegun n x order.new }
+// Puts each entity at its own place, but x and 0 with their places changed, so that x is first.
+fn arrange(x: usize, order: &mut [usize])
+    requires { x < length order.old }
+    ensures { SearchBegun (length order.old) x order.new }
 {
-    let mut k = 0;
-    while k < n {
-        order[k] = k;
-        k += 1;
+    for (k, place) in order.iter_mut().enumerate() {
+        *place = k;
     }
-    order[x] = 0;
-    order[0] = x;
+    order.swap(0, x);
 }
 
 // Of the entities from tail on, brings those that u has a channel to before the others. Returns where they end.
-fn spread(channels: &[u8], n: usize, u: usize, tail: usize, order: &mut [usize]) -> usize
-    requires { (n * n ≤ length channels.now) × (u < n) × (tail ≤ n) × Arranged n order.old }
-    ensures { Spread (Bytes n channels.now) n u n order.old order.new tail result }
+fn spread(channels: Square, u: usize, tail: usize, order: &mut [usize]) -> usize
+    requires { (u < channels.n) × (tail ≤ channels.n) × Arranged channels.n order.old }
+    ensures { Spread (Bytes channels.entry.n channels.entry.bytes.now) channels.entry.n u channels.entry.n order.old order.new tail result }
 {
-    let base = u * n;
     let mut end = tail;
-    let mut k = tail;
-    while k < n {
-        let y = order[k];
-        let is_channel = channels[base + y] == 1;
+    for k in tail..channels.n {
+        let is_channel = channels.holds(u, order[k]);
         if is_channel {
-            order[k] = order[end];
-            order[end] = y;
+            order.swap(k, end);
             end += 1;
         }
-        k += 1;
     }
     end
 }
 
 // Brings what x flows to to the front: those before tail are reached, and so is all that those before head have a channel to. Returns
 // how many there are.
-fn reach(channels: &[u8], n: usize, x: usize, order: &mut [usize]) -> usize
-    requires { (n * n ≤ length channels.now) × (x < n) × (n ≤ length order.old) }
-    ensures { SearchReached (Bytes n channels.now) n x order.new result }
+fn reach(channels: Square, x: usize, order: &mut [usize]) -> usize
+    requires { (x < channels.n) × (length order.old ≡ channels.n) }
+    ensures { SearchReached (Bytes channels.entry.n channels.entry.bytes.now) channels.entry.n x order.new result }
 {
-    arrange(n, x, order);
+    arrange(x, order);
     let mut head = 0;
     let mut tail = 1;
     while head < tail {
-        let u = order[head];
-        tail = spread(channels, n, u, tail, order);
+        tail = spread(channels, order[head], tail, order);
         head += 1;
     }
     tail
 }
 
-// Sets every byte of a row to 0.
-fn clear(row: &mut [u8])
-    ensures { row.new ≡ replicate (length row.old) 0 }
+// Sets to 1 the bytes of the entities before tail, and to 0 the others.
+fn mark(order: &[usize], tail: usize, row: &mut [u8])
+    requires { (tail ≤ length row.old) × Arranged (length row.old) order.now }
+    ensures { MarksBefore tail (length row.old) order.now row.new }
 {
-    let mut i = 0;
-    while i < row.len() {
-        row[i] = 0;
-        i += 1;
-    }
-}
-
-// Sets to 1 the bytes of the entities before tail.
-fn mark(n: usize, order: &[usize], tail: usize, row: &mut [u8])
-    requires { (tail ≤ n) × Arranged n order.now × (row.old ≡ replicate n 0) }
-    ensures { MarksBefore tail n order.now row.new }
-{
-    let mut k = 0;
-    while k < tail {
-        row[order[k]] = 1;
-        k += 1;
+    row.fill(0);
+    for &y in &order[..tail] {
+        row[y] = 1;
     }
 }
 
 // Writes the row of x: 1 for each entity that x flows to, 0 for the others.
-pub fn fill_row(channels: &[u8], n: usize, x: usize, row: &mut [u8])
-    requires { (n ≤ most_entities) × (n * n ≤ length channels.now) × (x < n) × (length row.old ≡ n) }
-    ensures { FlowRow n (Bytes n channels.now) x row.new }
+pub fn fill_row(channels: Square, x: usize, row: &mut [u8])
+    requires { (x < channels.n) × (length row.old ≡ channels.n) }
+    ensures { FlowRow channels.entry.n (Bytes channels.entry.n channels.entry.bytes.now) x row.new }
 {
-    let mut order = [0usize; sizes::MOST_ENTITIES];
-    let reached = reach(channels, n, x, &mut order);
-    clear(row);
-    mark(n, &order, reached, row);
+    let mut places = [0; MOST_ENTITIES];
+    let order = &mut places[..channels.n];
+    let reached = reach(channels, x, order);
+    mark(order, reached, row);
 }
 
 // Writes the row of each entity in its own place of the table.
-pub fn fill_rows(channels: &[u8], n: usize, flow: &mut [u8])
-    requires { (n ≤ most_entities) × (n * n ≤ length channels.now) × (n * n ≤ length flow.old) }
-    ensures { FlowTable n (Bytes n channels.now) flow.old flow.new }
+pub fn fill_rows(channels: Square, flow: &mut [u8])
+    requires { channels.n * channels.n ≤ length flow.old }
+    ensures { FlowTable channels.entry.n (Bytes channels.entry.n channels.entry.bytes.now) flow.old flow.new }
 {
-    let mut x = 0;
-    while x < n {
+    let n = channels.n;
+    for x in 0..n {
         let start = x * n;
-        let end = start + n;
-        fill_row(channels, n, x, &mut flow[start..end]);
-        x += 1;
+        fill_row(channels, x, &mut flow[start..start + n]);
     }
 }

@@ -1,5 +1,4 @@
 -- `rows::fill_rows` meets its contract. After x turns the rows below x are filled.
-use Prim.Native.Nat.{◌≤◌, ◌-◌}
 use mathlib.Core.Path.{◌≡◌}
 use lib.ListN.{length}
 use Rattle.answers.specs.Rows.{Mark, Bytes}
@@ -9,7 +8,5 @@ use Rattle.rows.proofs.fill_rows.Given as goal
 
 abbrev pub invariant-loop-x : goal.invariant-loop-x
 invariant-loop-x l =
-    (l.x ≤ l.n) × (length l.flow ≡ length l.initial.flow) × FilledRows l.n (λ a b byte. Mark (Flow (Bytes l.n l.channels) a b) byte) l.x l.initial.flow l.flow
-
-abbrev pub decreases-loop-x : goal.decreases-loop-x
-decreases-loop-x l = l.n - l.x
+    (length l.flow ≡ length l.initial.flow)
+    × FilledRows l.n (λ a b byte. Mark (Flow (Bytes l.n l.channels.bytes.now) a b) byte) l.x l.initial.flow l.flow

@@ -1,10 +1,7 @@
--- `rows::mark` meets its contract. After k turns the bytes mark those before k.
-use Prim.Native.Nat.{◌-◌, ◌≤◌}
+-- `rows::mark` meets its contract. So far the bytes mark those that it has passed.
 use Rattle.rows.specs.Search.{MarksBefore}
+use lib.ListN.{length}
 use Rattle.rows.proofs.mark.Given as goal
 
-abbrev pub invariant-loop-k : goal.invariant-loop-k
-invariant-loop-k l = (l.k ≤ l.tail) × MarksBefore l.k l.n l.order l.row
-
-abbrev pub decreases-loop-k : goal.decreases-loop-k
-decreases-loop-k l = l.n - l.k
+abbrev pub invariant-loop-y : goal.invariant-loop-y
+invariant-loop-y l = MarksBefore l.y-index (length l.initial.row) l.fn.order l.row

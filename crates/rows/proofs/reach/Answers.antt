@@ -4,10 +4,9 @@ use native.Mathlib.Omega.{arith}
 use Rattle.theory.proofs.Filled.{bytes_inside}
 use Rattle.rows.proofs.Searches.{searching_first, searching_next, searching_done}
 use Rattle.rows.proofs.reach.Goals as goal
-use Rattle.rows.proofs.reach.Goals.{At-loop-head}
 
 pub loop-head-init : goal.loop-head-init
-loop-head-init c = (refl, searching_first _ (omega arith) c.arrange.ensures)
+loop-head-init c = (refl, searching_first _ (omega arith) (rw c.requires.1 at c.arrange.ensures))
 
 pub loop-head-preserved : goal.loop-head-preserved
 loop-head-preserved c = (

@@ -7,7 +7,7 @@ use Rattle.rows.proofs.Searches.{Searching}
 use Rattle.rows.proofs.reach.Given as goal
 
 abbrev pub invariant-loop-head : goal.invariant-loop-head
-invariant-loop-head l = (length l.order ≡ length l.initial.order) × Searching (Bytes l.n l.channels) l.n l.x l.order l.head l.tail
+invariant-loop-head l = (length l.order ≡ length l.initial.order) × Searching (Bytes l.channels.n l.channels.bytes.now) l.channels.n l.x l.order l.head l.tail
 
 abbrev pub decreases-loop-head : goal.decreases-loop-head
-decreases-loop-head l = l.n - l.head
+decreases-loop-head l = l.channels.n - l.head

@@ -1,25 +1,19 @@
 -- `rows::spread` meets its contract. The entities before k have been looked at.
-use Prim.Native.Nat.{◌<◌}
-use mathlib.Core.Path.{ap, ◌∙◌}
 use native.Mathlib.Omega.{arith}
-use lib.ListN.{length, get_or, length-set}
+use borrow.Author.Tests.{eqb-true, eqb-false}
 use Rattle.rows.proofs.Spreads.{spread_pass, spread_take}
 use Rattle.rows.proofs.spread.Goals as goal
-use Rattle.rows.proofs.spread.Goals.{In-loop-k, Start, else-is_channel, then-is_channel}
-
--- at k stands an entity
-entity : (c : In-loop-k) → get_or c.loop-k.order c.loop-k.k 0 < c.args.n
-entity c = c.loop-k.invariant.2.arranged.entity c.loop-k.k (omega arith)
+use Rattle.rows.proofs.spread.Goals.{else-is_channel, then-is_channel}
 
 pub loop-k-preserved : goal.loop-k-preserved
 loop-k-preserved c =
-    let s = c.loop-k.invariant.2 in
+    let s = c.loop-k.invariant.1 in
     elim c.if-is_channel.branch [
       | then-is_channel w ↦ (
         omega arith,
-        ap length w.order-is ∙ simp length-set c.loop-k.invariant.1,
         rw (w.order-is, w.end-is)
-            (spread_take s (omega arith) (record { source = omega arith; target = entity (goal.at.loop-k-preserved c).In-loop-k; byte = omega arith })),
+            (spread_take s (omega arith) (record { source = omega arith; target = s.arranged.entity _ (omega arith); byte = eqb-true _ _ (cc) })
+            w.swap.auto.self w.swap.ensures.by_index),
       )
-      | else-is_channel w ↦ (omega arith, ap length w.order-is ∙ c.loop-k.invariant.1, rw (w.order-is, w.end-is) (spread_pass s (λ d. omega arith)))
+      | else-is_channel w ↦ (omega arith, rw (w.order-is, w.end-is) (spread_pass s (λ d. eqb-false _ _ (cc) d.byte)))
     ]
