@@ -1,6 +1,6 @@
 -- Laws of effects and of the chosen row.
 pub mod Affecting
-pub mod Outcomes
+pub mod Passed
 pub mod Chosen
 pub mod Determined
 pub mod Examples

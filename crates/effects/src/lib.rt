@@ -1,111 +1,123 @@
 // What a change did to labels, and a row handed back.
 #![tactic(auto)]
 
-ghost use Rattle.std.specs.Prelude.{◌≡◌};
+ghost use Rattle.std.specs.Prelude.{◌≡◌, ◌||◌, ◌<◌, ◌≤◌, ◌↔◌, IsTrue, IfOk, length};
+ghost use Rattle.answers.specs.Sizes.{least_flow, least_effect};
 ghost use Rattle.answers.specs.Call.{first_refusal};
-ghost use Rattle.answers.specs.Rows.{Mark, Bytes};
+ghost use Rattle.answers.specs.Refused.{code};
+ghost use Rattle.answers.specs.Rows.{Bytes, shorter};
 ghost use Rattle.theory.specs.Effect.{Gained, Effect};
 ghost use Rattle.effects.specs.Effects.{effect_refusals, Affected, Affects};
 ghost use Rattle.effects.specs.ChosenRow.{can_choose, ChosenRow};
-ghost use Rattle.effects.specs.Inner.{BothTables, NewFlow, Affecting};
+ghost use Rattle.effects.specs.Inner.{NewFlow};
 
-use answers::sizes;
+use answers::refused::Refused;
+use answers::{Square, sizes};
 
-// 1 if `x` flows to `y` after the change and did not before, 0 if not.
-fn new_flow(n: usize, before: &[u8], after: &[u8], x: usize, y: usize) -> u8
-    requires { BothTables n before.now after.now x y }
-    ensures { Mark (NewFlow n before.now after.now x y) result }
-{
-    let old = labels::flow_byte(n, before, x, y);
-    if old == 1 {
-        return 0;
-    }
-    labels::flow_byte(n, after, x, y)
+// The flow tables of equal N before and after a change.
+#[derive(Clone, Copy)]
+struct Change<'a> {
+    before: Square<'a>,
+    after: Square<'a>,
+    ghost equal_n: { before.n ≡ after.n },
 }
 
-// 1 if the label of `x` gained an entity, 0 if not.
-fn gained(n: usize, before: &[u8], after: &[u8], x: usize) -> u8
-    requires { BothTables n before.now after.now x x }
-    ensures { Mark (Gained n (Bytes n before.now) (Bytes n after.now) x) result }
+// Whether the table after a change or the effect's buffer is too short.
+fn is_short(after: &[u8], effect: &[u8]) -> bool
+    ensures { result ≡ (shorter after.now least_flow || shorter effect.now least_effect) }
 {
-    let mut y = 0;
-    while y < n {
-        let new = new_flow(n, before, after, y, x);
-        if new == 1 {
-            return 1;
+    after.len() < sizes::LEAST_FLOW || effect.len() < sizes::LEAST_EFFECT
+}
+
+impl<'a> Change<'a> {
+    // The change between two lent tables, where 1, 5 and 12 pass.
+    fn between(
+        n: usize,
+        before: &'a [u8],
+        after: &'a [u8],
+        effect: &[u8],
+    ) -> Result<Change<'a>, Refused>
+        ensures judged { code result ≡ first_refusal (effect_refusals n before.entry.now after.entry.now effect.now) }
+        ensures lent { IfOk result (λ c. (c.before.bytes ≡ before.entry) × (c.after.n ≡ n) × (c.after.bytes ≡ after.entry)) }
+    {
+        let before = refusals::flow_table(is_short(after, effect), n, before)?;
+        let after = Square { n, bytes: after };
+        refusals::check_bytes(after)?;
+        Ok(Change { before, after })
+    }
+
+    // The change that takes this one back.
+    fn undone(self) -> Change<'a>
+        ensures { (result.before ≡ self.entry.after) × (result.after ≡ self.entry.before) }
+    {
+        Change {
+            before: self.after,
+            after: self.before,
         }
-        y += 1;
     }
-    0
-}
 
-// The effect on `x`: 1 if its label gained an entity, 2 if it lost one, summed.
-fn effect_byte(n: usize, before: &[u8], after: &[u8], x: usize) -> u8
-    requires { BothTables n before.now after.now x x }
-    ensures { Effect n (Bytes n before.now) (Bytes n after.now) x result }
-{
-    let gain = gained(n, before, after, x);
-    let loss = gained(n, after, before, x);
-    gain + 2 * loss
-}
-
-// Writes the effect on each entity.
-fn fill_effects(n: usize, before: &[u8], after: &[u8], effect: &mut [u8])
-    requires { Affecting n before.now after.now effect.old }
-    ensures { Affected n before.now after.now effect.old (0, effect.new) }
-{
-    let mut x = 0;
-    while x < n {
-        effect[x] = effect_byte(n, before, after, x);
-        x += 1;
+    // Whether `x` flows to `y` after the change and did not before.
+    fn adds(self, x: usize, y: usize) -> bool
+        requires { (x < self.after.n) × (y < self.after.n) }
+        ensures { IsTrue result ↔ NewFlow self.entry.after.n self.entry.before.bytes.now self.entry.after.bytes.now x y }
+    {
+        !self.before.holds(x, y) && self.after.holds(x, y)
     }
-}
 
-// 1, 5 or 12 of two flow tables and a buffer for the effect, 0 for none.
-fn effect_refusal(n: usize, before: &[u8], after: &[u8], effect: &[u8]) -> u8
-    ensures { result ≡ first_refusal (effect_refusals n before.now after.now effect.now) }
-{
-    let short = answers::either(
-        after.len() < sizes::LEAST_FLOW,
-        effect.len() < sizes::LEAST_EFFECT,
-    );
-    let refusal = refusals::flow_refusal(short, n, before);
-    if refusal != 0 {
-        return refusal;
+    // Whether the label of `x` gained an entity.
+    fn gained(self, x: usize) -> bool
+        requires { x < self.after.n }
+        ensures { let n = self.entry.after.n in IsTrue result ↔ Gained n (Bytes n self.entry.before.bytes.now) (Bytes n self.entry.after.bytes.now) x }
+    {
+        (0..self.after.n).any(|y| self.adds(y, x))
     }
-    refusals::byte_refusal(n, after)
+
+    // The effect on `x`: 1 if its label gained an entity, 2 if it lost one, summed.
+    fn effect_on(self, x: usize) -> u8
+        requires { x < self.after.n }
+        ensures { let n = self.entry.after.n in Effect n (Bytes n self.entry.before.bytes.now) (Bytes n self.entry.after.bytes.now) x result }
+    {
+        let back = self.undone();
+        let gain = self.gained(x);
+        let loss = back.gained(x);
+        gain as u8 + 2 * loss as u8
+    }
+
+    // Writes the effect on each entity.
+    fn fill(self, effect: &mut [u8])
+        requires { least_effect ≤ length effect.old }
+        ensures { Affected self.entry.after.n self.entry.before.bytes.now self.entry.after.bytes.now effect.old (0, effect.new) }
+    {
+        for x in 0..self.after.n {
+            effect[x] = self.effect_on(x);
+        }
+    }
 }
 
 // Writes what a change did to each label, by the flow tables before and after it: 0 the same, 1 gained only, 2 lost only, 3 both.
 // Refuses with 1, 5 and 12, in this order, and then changes nothing.
-pub fn effect(n: usize, before: &[u8], after: &[u8], effect: &mut [u8]) -> u8
-    ensures { Affects n before.now after.now effect.old (result, effect.new) }
+pub fn effect<'a>(
+    n: usize,
+    before: &'a [u8],
+    after: &'a [u8],
+    effect: &mut [u8],
+) -> Result<(), Refused>
+    ensures { Affects n before.now after.now effect.old (code result, effect.new) }
 {
-    let refusal = effect_refusal(n, before, after, effect);
-    if refusal != 0 {
-        return refusal;
-    }
-    fill_effects(n, before, after, effect);
-    0
+    let change = Change::between(n, before, after, effect)?;
+    change.fill(effect);
+    Ok(())
 }
 
 // Whether the choice, the number, the count and both lengths are good.
 fn can_choose(before: &[u8], after: &[u8], n: usize, choice: usize, x: usize) -> bool
     ensures { result ≡ can_choose before.now after.now n choice x }
 {
-    if 2 <= choice {
-        return false;
-    }
-    if n <= x {
-        return false;
-    }
-    if sizes::MOST_ENTITIES < n {
-        return false;
-    }
-    if before.len() < sizes::LEAST_FLOW {
-        return false;
-    }
-    sizes::LEAST_FLOW <= after.len()
+    choice < 2
+        && x < n
+        && n <= sizes::MOST_ENTITIES
+        && sizes::LEAST_FLOW <= before.len()
+        && sizes::LEAST_FLOW <= after.len()
 }
 
 // The row of `x`, as a part of the table before a change for choice 0, and of the one after it for 1. For a bad choice, number,
@@ -119,14 +131,13 @@ pub fn chosen_row<'a>(
 ) -> &'a [u8]
     ensures { ChosenRow before.entry after.entry n choice x result }
 {
-    if can_choose(before, after, n, choice, x) {
-        let from = x * n;
-        let to = from + n;
-        let is_before = choice == 0;
-        if is_before {
-            return &before[from..to];
-        }
-        return &after[from..to];
+    if !can_choose(before, after, n, choice, x) {
+        return &before[..0];
     }
-    &before[0..0]
+    let from = x * n;
+    let to = from + n;
+    match choice {
+        0 => &before[from..to],
+        _ => &after[from..to],
+    }
 }

@@ -3,15 +3,12 @@ use Prim.Native.Nat.{ℕ, ◌+◌, ◌≤◌, ◌<◌}
 use mathlib.Core.Path.{◌≡◌, refl}
 use mathlib.Core.Bool.{cond}
 use mathlib.Core.List.{List}
-use native.Mathlib.Nat.{le_antisymm}
 use native.Mathlib.Omega.{arith}
 use lib.Dec.{eqb}
 use lib.ListN.{length, set}
-use Rattle.answers.specs.Call.{told}
 use Rattle.answers.specs.Rows.{Bytes, Mark, one, none, count}
 use Rattle.answers.proofs.Written.{Written, written_none, written_more, count_more, count_within}
 use Rattle.theory.specs.Order.{InLabel}
-use Rattle.labels.specs.Labelled.{Labelled}
 
 -- ---- label: the bytes of the entities below y are written, and size says how many of them are 1
 pub record LabelTo (n : ℕ) (table : List ℕ) (x y : ℕ) (before : List ℕ) (size : ℕ) (after : List ℕ) : Type 0 where
@@ -27,23 +24,14 @@ module _ (n : ℕ) (table : List ℕ) (x : ℕ) where
   unfolding count written_none
   label_none before = record { front = written_none (λ z byte. Mark (InLabel (Bytes n table) x z) byte) before; counted = refl }
 
-  pub label_more : (y : ℕ) (before after : List ℕ) (size b v : ℕ) → y < length before → Mark (Bytes n table y x) b → v ≡ b →
-      LabelTo n table x y before size after → LabelTo n table x (y + 1) before (size + v) (set after y b)
+  pub label_more : (y : ℕ) (before after : List ℕ) (size b : ℕ) → y < length before → Mark (Bytes n table y x) b →
+      LabelTo n table x y before size after → LabelTo n table x (y + 1) before (size + b) (set after y b)
   unfolding written_more
-  label_more y before after size b v h m e l =
+  label_more y before after size b h m l =
       record {
         front = written_more (λ z byte. Mark (InLabel (Bytes n table) x z) byte) before after y b h m l.front;
-        counted = rw (count_more, ← l.counted, marked_count m, e);
+        counted = rw (count_more, ← l.counted, marked_count m);
       }
 
   pub label_few : (y : ℕ) (before after : List ℕ) (size : ℕ) → LabelTo n table x y before size after → size ≤ y
   label_few y before after size l = omega (arith, l.counted, count_within 1 l.front.row, l.front.bytes.size)
-
-  pub label_done : (y : ℕ) (before after : List ℕ) (size : ℕ) → y ≤ n → n ≤ y → LabelTo n table x y before size after →
-      Labelled n table x before (told 0 size, after)
-  label_done y before after size h g l =
-      record {
-        row = l.front.row;
-        label = rw (le_antisymm h g) at l.front.bytes;
-        written = rw (l.counted, l.front.written);
-      }

@@ -1,113 +1,73 @@
 // Label, class and flags of an entity, by the bytes of a flow table that was judged.
 #![tactic(auto)]
 
+ghost use Rattle.std.specs.Prelude.{◌<◌, ◌↔◌, IsTrue};
 ghost use Rattle.answers.specs.Call.{told};
-ghost use Rattle.answers.specs.Rows.{Mark, Bytes};
+ghost use Rattle.answers.specs.Rows.{Bytes};
 ghost use Rattle.theory.specs.Order.{Equivalent, ClassName, GreatestSecrecy, GreatestIntegrity, Greatest};
 ghost use Rattle.labels.specs.Labelled.{Labelled};
 ghost use Rattle.labels.specs.Inner.{Asked, Labelling, FlowsOn};
 
-// 1 if `x` flows to `y`, 0 if not.
-pub fn flow_byte(n: usize, table: &[u8], x: usize, y: usize) -> u8
-    requires { Asked n table.now x y }
-    ensures { Mark (Bytes n table.now x y) result }
-{
-    table[x * n + y]
-}
+use answers::Square;
 
 // Writes the label of `x`, and returns its size.
-pub fn fill_label(n: usize, table: &[u8], x: usize, label: &mut [u8]) -> usize
-    requires { Labelling n table.now x label.old }
-    ensures { Labelled n table.now x label.old (told 0 result, label.new) }
+pub fn fill_label(table: Square, x: usize, label: &mut [u8]) -> usize
+    requires { Labelling table.n table.bytes.now x label.old }
+    ensures { Labelled table.entry.n table.entry.bytes.now x label.old (told 0 result, label.new) }
 {
     let mut size = 0;
-    let mut y = 0;
-    while y < n {
-        let byte = flow_byte(n, table, y, x);
+    for y in 0..table.n {
+        let byte = table.byte(y, x);
         label[y] = byte;
-        size += answers::wide(byte);
-        y += 1;
+        size += byte as usize;
     }
     size
 }
 
-// 1 if `x` and `y` flow to each other, 0 if not.
-pub fn equivalent(n: usize, table: &[u8], x: usize, y: usize) -> u8
-    requires { Asked n table.now x y }
-    ensures { Mark (Equivalent (Bytes n table.now) x y) result }
+// Whether `x` and `y` flow to each other.
+fn are_equivalent(table: Square, x: usize, y: usize) -> bool
+    requires { (x < table.n) × (y < table.n) }
+    ensures { IsTrue result ↔ Equivalent (Bytes table.entry.n table.entry.bytes.now) x y }
 {
-    let there = flow_byte(n, table, x, y);
-    if there == 0 {
-        return 0;
-    }
-    flow_byte(n, table, y, x)
+    table.holds(x, y) && table.holds(y, x)
 }
 
 // The smallest entity that is equivalent to `x`: `x` itself, if none below it is.
-pub fn smallest_member(n: usize, table: &[u8], x: usize) -> usize
-    requires { Asked n table.now x x }
-    ensures { ClassName n (Bytes n table.now) x result }
+pub fn smallest_member(table: Square, x: usize) -> usize
+    requires { Asked table.n table.bytes.now x }
+    ensures { ClassName table.entry.n (Bytes table.entry.n table.entry.bytes.now) x result }
 {
-    let mut z = 0;
-    while z < x {
-        let member = equivalent(n, table, x, z);
-        if member == 1 {
-            return z;
-        }
-        z += 1;
-    }
-    x
+    (0..x).find(|z| are_equivalent(table, x, *z)).unwrap_or(x)
 }
 
-// 1 if `x` flows to `y` and `y` is another entity, 0 if not.
-fn leaves(n: usize, table: &[u8], x: usize, y: usize) -> u8
-    requires { Asked n table.now x y }
-    ensures { Mark (FlowsOn n table.now x y) result }
+// Whether `x` flows to `y`, another entity.
+fn leaves(table: Square, x: usize, y: usize) -> bool
+    requires { (x < table.n) × (y < table.n) }
+    ensures { IsTrue result ↔ FlowsOn table.entry.n table.entry.bytes.now x y }
 {
-    if x == y {
-        return 0;
-    }
-    flow_byte(n, table, x, y)
+    x != y && table.holds(x, y)
 }
 
-// 1 if `x` flows to nothing but itself, 0 if not.
-fn greatest_secrecy(n: usize, table: &[u8], x: usize) -> usize
-    requires { Asked n table.now x x }
-    ensures { Mark (GreatestSecrecy n (Bytes n table.now) x) result }
+// Whether `x` flows to nothing but itself.
+fn has_greatest_secrecy(table: Square, x: usize) -> bool
+    requires { x < table.n }
+    ensures { IsTrue result ↔ GreatestSecrecy table.entry.n (Bytes table.entry.n table.entry.bytes.now) x }
 {
-    let mut y = 0;
-    while y < n {
-        let out = leaves(n, table, x, y);
-        if out == 1 {
-            return 0;
-        }
-        y += 1;
-    }
-    1
+    !(0..table.n).any(|y| leaves(table, x, y))
 }
 
-// 1 if nothing but `x` flows into `x`, 0 if not.
-fn greatest_integrity(n: usize, table: &[u8], x: usize) -> usize
-    requires { Asked n table.now x x }
-    ensures { Mark (GreatestIntegrity n (Bytes n table.now) x) result }
+// Whether nothing but `x` flows into `x`.
+fn has_greatest_integrity(table: Square, x: usize) -> bool
+    requires { x < table.n }
+    ensures { IsTrue result ↔ GreatestIntegrity table.entry.n (Bytes table.entry.n table.entry.bytes.now) x }
 {
-    let mut y = 0;
-    while y < n {
-        let into = leaves(n, table, y, x);
-        if into == 1 {
-            return 0;
-        }
-        y += 1;
-    }
-    1
+    !(0..table.n).any(|y| leaves(table, y, x))
 }
 
 // The flags of `x`: 1 for greatest secrecy, 2 for greatest integrity, summed.
-pub fn flags(n: usize, table: &[u8], x: usize) -> usize
-    requires { Asked n table.now x x }
-    ensures { Greatest n (Bytes n table.now) x result }
+pub fn flags(table: Square, x: usize) -> usize
+    requires { x < table.n }
+    ensures { Greatest table.entry.n (Bytes table.entry.n table.entry.bytes.now) x result }
 {
-    let secrecy = greatest_secrecy(n, table, x);
-    let integrity = greatest_integrity(n, table, x);
-    secrecy + 2 * integrity
+    has_greatest_secrecy(table, x) as usize + 2 * has_greatest_integrity(table, x) as usize
 }

@@ -7,11 +7,13 @@ use mathlib.Core.Option.{some, none}
 use native.Mathlib.Omega.{arith}
 use lib.Dec.{lit<}
 use lib.ListN.{replicate}
+use Rattle.std.specs.Prelude.{Ok, Err}
+use Rattle.answers.specs.declared.refused.Refused.TheVariants.{NoEntity}
 use Rattle.answers.specs.Call.{first_refusal, ◌then◌}
 use Rattle.answers.specs.Rows.{Bytes, any_below}
 use Rattle.theory.specs.Order.{below, Compares, only_there}
 use Rattle.tables.specs.FlowTable.{byte_refusals, flow_size_refusals, flow_refusals, entity_refusals, pair_asked_refusals}
-use Rattle.questions.specs.declared.Compared.TheVariants.{Below, Refused}
+use Rattle.questions.specs.declared.Compared.TheVariants.{Below}
 use Rattle.questions.specs.Compare.{comparison}
 use Rattle.questions.specs.Questions.{asked_refusals, both_asked_refusals, label_refusals}
 
@@ -62,8 +64,8 @@ flow_order =
 
 -- "a definition gives this paper's number and values for each of its cases": an order is told by 0, and a refusal by its number and no order
 pub record Enum : Type 0 where
-  below_told : comparison Below ≡ record { number = 0; order = some below }
-  refusal_told : comparison (Refused 10) ≡ record { number = 10; order = none }
+  below_told : comparison (Ok Below) ≡ record { number = 0; order = some below }
+  refusal_told : comparison (Err NoEntity) ≡ record { number = 10; order = none }
 
 pub enum : Enum
 unfolding comparison

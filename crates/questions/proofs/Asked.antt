@@ -12,21 +12,20 @@ use Rattle.labels.specs.Inner.{Asked}
 use Rattle.tables.proofs.FlowTables.{flow_numbered, flow_passed, flow_pass}
 
 pub asked_passed : (short : Bool) (n : ℕ) (table : List ℕ) (x : ℕ) → first_refusal (flow_refusals short n table then entity_refusals n x) ≡ 0 →
-    (short ≡ false) × Asked n table x x
+    (short ≡ false) × Asked n table x
 unfolding entity_refusals
 asked_passed short n table x e =
     let p = passed_then (flow_refusals short n table) _ (flow_numbered short n table) e in
     let f = flow_passed short n table p.0 in
-    let below = leb-false _ _ (passed _ _ _ tt p.1).0 in
-    (f.0, record { accepted = f.1; source = below; target = below })
+    (f.0, record { accepted = f.1; below = leb-false _ _ (passed _ _ _ tt p.1).0 })
 
-pub both_passed : (n : ℕ) (table : List ℕ) (x y : ℕ) → first_refusal (both_asked_refusals n table x y) ≡ 0 → Asked n table x y
+pub both_passed : (n : ℕ) (table : List ℕ) (x y : ℕ) → first_refusal (both_asked_refusals n table x y) ≡ 0 → (x < n) × (y < n)
 unfolding both_asked_refusals pair_asked_refusals
 both_passed n table x y e =
     let p = passed_then (flow_refusals false n table) _ (flow_numbered false n table) e in
     let first = passed _ _ _ tt p.1 in
     let second = passed _ _ _ tt first.1 in
-    record { accepted = (flow_passed false n table p.0).1; source = leb-false _ _ first.0; target = leb-false _ _ second.0 }
+    (leb-false _ _ first.0, leb-false _ _ second.0)
 
 -- "Questions on a flow table are defined by its bytes alone": if these are sound, x below N and no buffer short, one on x is not refused
 pub asked_pass : (n : ℕ) (table : List ℕ) → SoundFlow n table → (short : Bool) → short ≡ false → (x : ℕ) → x < n → first_refusal (flow_refusals short n table then entity_refusals n x) ≡ 0

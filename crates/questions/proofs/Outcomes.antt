@@ -1,46 +1,46 @@
--- The ends of the calls that answer more than a number, return by return.
+-- The ends of the calls, return by return.
 use Prim.Native.Nat.{ℕ}
-use mathlib.Core.Path.{◌≡◌, refl}
-use mathlib.Core.Logic.{◌≢◌}
-use mathlib.Core.Bool.{false}
+use mathlib.Core.Path.{◌≡◌, refl, sym}
+use mathlib.Core.Bool.{Bool, false, cond}
 use mathlib.Core.List.{List}
-use borrow.Author.Tests.{ltb-false}
+use Rattle.std.specs.Prelude.{Result, Ok}
+use Rattle.std.specs.Result.{IsErrAnd}
+use Rattle.answers.specs.declared.refused.Refused.{Refused as Why}
 use Rattle.answers.specs.Call.{first_refusal, ◌then◌, Outcome, told}
-use Rattle.answers.specs.Sizes.{least_label}
-use Rattle.answers.specs.Rows.{shorter}
+use Rattle.answers.specs.Refused.{number, told_of}
+use Rattle.answers.specs.Rows.{Mark, Bytes}
 use Rattle.answers.proofs.Calls.{refuse, accept}
+use Rattle.answers.proofs.Exits.{some_number, exit}
+use Rattle.theory.specs.Order.{Compares}
 use Rattle.questions.specs.declared.Compared.{Compared}
-use Rattle.questions.specs.declared.Compared.TheVariants.{Refused}
 use Rattle.tables.specs.FlowTable.{flow_refusals, entity_refusals}
-use Rattle.questions.specs.Questions.{asked_refusals, both_asked_refusals, Answered}
-use Rattle.questions.specs.Compare.{comparison, Stands, ComparesTo}
-use Rattle.labels.specs.Inner.{Labelling}
-use Rattle.questions.proofs.Asked.{asked_passed}
+use Rattle.questions.specs.Questions.{asked_refusals, both_asked_refusals, yes_or_no, Answered, Flows}
+use Rattle.questions.specs.Compare.{order_of, comparison, ComparesTo}
 
--- ---- compare
+-- ---- a question on x and y
 module _ (n : ℕ) (table : List ℕ) (x y : ℕ) where
-  pub compare_refused : (k : ℕ) → k ≡ first_refusal (both_asked_refusals n table x y) → k ≢ 0 → ComparesTo n table x y (Refused k)
-  unfolding ComparesTo comparison
-  compare_refused k e some = refuse k e some refl
+  pub flows_refused : (why : Why) (r : Result Bool Why) → IsErrAnd r (λ e. e ≡ why) → number why ≡ first_refusal (both_asked_refusals n table x y) → Flows n table x y (yes_or_no r)
+  flows_refused why r is e = rw (exit why r is) (refuse (number why) e (some_number why) refl)
 
-  pub compare_done : (r : Compared) → first_refusal (both_asked_refusals n table x y) ≡ 0 → Stands n table x y (comparison r) → ComparesTo n table x y r
-  unfolding ComparesTo
-  compare_done r e s = accept e s
+  pub flows_done : (b : Bool) → 0 ≡ first_refusal (both_asked_refusals n table x y) → Mark (Bytes n table x y) (cond b 1 0) → Flows n table x y (told 0 (cond b 1 0))
+  flows_done b e m = accept (sym e) (record { answer = refl; right = m })
+
+  pub compare_refused : (why : Why) (r : Result Compared Why) → IsErrAnd r (λ e. e ≡ why) → number why ≡ first_refusal (both_asked_refusals n table x y) → ComparesTo n table x y r
+  unfolding ComparesTo comparison
+  compare_refused why r is e = rw (exit why r is) (refuse (number why) e (some_number why) refl)
+
+  pub compare_done : (r : Compared) → 0 ≡ first_refusal (both_asked_refusals n table x y) → Compares (Bytes n table) x y (order_of r) → ComparesTo n table x y (Ok r)
+  unfolding ComparesTo comparison
+  compare_done r e s = accept (sym e) (record { order = order_of r; compares = s; told = refl })
 
 -- ---- a question on x that answers one value
 module _ (n : ℕ) (table : List ℕ) (x : ℕ) {Right : ℕ → Type 0} where
-  pub asked_refused : (k : ℕ) → k ≡ first_refusal (flow_refusals false n table then entity_refusals n x) → k ≢ 0 →
-      Outcome (asked_refusals n table x) (λ i. told i 0) (Answered Right) (told k 0)
+  pub asked_refused : (why : Why) (r : Result ℕ Why) → IsErrAnd r (λ e. e ≡ why) → number why ≡ first_refusal (flow_refusals false n table then entity_refusals n x) →
+      Outcome (asked_refusals n table x) (λ i. told i 0) (Answered Right) (told_of r)
   unfolding asked_refusals
-  asked_refused k e some = refuse k e some refl
+  asked_refused why r is e = rw (exit why r is) (refuse (number why) e (some_number why) refl)
 
-  pub asked_done : (v : ℕ) → first_refusal (flow_refusals false n table then entity_refusals n x) ≡ 0 → Right v →
+  pub asked_done : (v : ℕ) → 0 ≡ first_refusal (flow_refusals false n table then entity_refusals n x) → Right v →
       Outcome (asked_refusals n table x) (λ i. told i 0) (Answered Right) (told 0 v)
   unfolding asked_refusals
-  asked_done v e r = accept e (record { answer = refl; right = r })
-
--- ---- label
-pub labelling : (n : ℕ) (table : List ℕ) (x : ℕ) (label : List ℕ) → first_refusal (flow_refusals (shorter label least_label) n table then entity_refusals n x) ≡ 0 → Labelling n table x label
-labelling n table x label e =
-    let p = asked_passed (shorter label least_label) n table x e in
-    record { asked = p.1; label_room = ltb-false _ _ p.0 }
+  asked_done v e r = accept (sym e) (record { answer = refl; right = r })

@@ -1,26 +1,19 @@
--- How two entities stand to each other, return by return.
-use Prim.Native.Nat.{ℕ}
-use mathlib.Core.Path.{◌≡◌, refl}
+-- How two entities stand to each other, by the tests of the bytes there and back.
+use Prim.Native.Nat.{ℕ, ◌<◌}
+use mathlib.Core.Path.{◌≡◌, refl, sym, ◌∙◌}
+use mathlib.Core.Bool.{Bool, true, false, cond, false≢true}
 use mathlib.Core.List.{List}
-use Rattle.answers.specs.Rows.{Mark, Bytes}
-use Rattle.answers.proofs.Marks.{marked_yes, marked_unless}
-use Rattle.theory.specs.Order.{equal, below, above, incomparable, both, only_there, only_back, neither}
-use Rattle.questions.specs.declared.Compared.TheVariants.{Equal, Below, Above, Incomparable}
-use Rattle.questions.specs.Compare.{comparison, Stands}
+use borrow.Author.Tests.{eqb-true, eq-eqb}
+use lib.Dec.{eqb}
+use Rattle.answers.specs.Rows.{at, Mark, one, none, Bytes}
 
-module _ (n : ℕ) (table : List ℕ) (x y there back : ℕ) (p : Mark (Bytes n table x y) there) (q : Mark (Bytes n table y x) back) where
-  pub stand_equal : there ≡ 1 → back ≡ 1 → Stands n table x y (comparison Equal)
-  unfolding comparison
-  stand_equal e f = record { order = equal; compares = both (marked_yes p e) (marked_yes q f); told = refl }
+module _ (n : ℕ) (table : List ℕ) (x y : ℕ) where
+  pub flows_by : x < n → y < n → true ≡ eqb (at table n x y) 1 → Bytes n table x y
+  flows_by hx hy e = record { source = hx; target = hy; byte = eqb-true _ _ (sym e) }
 
-  pub stand_below : there ≡ 1 → (back ≡ 1 → ⊥) → Stands n table x y (comparison Below)
-  unfolding comparison
-  stand_below e f = record { order = below; compares = only_there (marked_yes p e) (marked_unless q f); told = refl }
+  pub no_flow_by : false ≡ eqb (at table n x y) 1 → Bytes n table x y → ⊥
+  no_flow_by e b = false≢true (e ∙ eq-eqb _ _ b.byte)
 
-  pub stand_above : (there ≡ 1 → ⊥) → back ≡ 1 → Stands n table x y (comparison Above)
-  unfolding comparison
-  stand_above e f = record { order = above; compares = only_back (marked_unless p e) (marked_yes q f); told = refl }
-
-  pub stand_apart : (there ≡ 1 → ⊥) → (back ≡ 1 → ⊥) → Stands n table x y (comparison Incomparable)
-  unfolding comparison
-  stand_apart e f = record { order = incomparable; compares = neither (marked_unless p e) (marked_unless q f); told = refl }
+  pub flow_marked : (x < n) × (y < n) → (b : Bool) → b ≡ eqb (at table n x y) 1 → Mark (Bytes n table x y) (cond b 1 0)
+  flow_marked inside true e = one refl (flows_by inside.0 inside.1 e)
+  flow_marked inside false e = none refl (no_flow_by e)

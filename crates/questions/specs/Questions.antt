@@ -1,6 +1,8 @@
 -- The questions on a flow table of n entities, "defined by its bytes alone".
-use Rattle.std.specs.Prelude.{ℕ, ◌≡◌, List}
+use Rattle.std.specs.Prelude.{ℕ, ◌≡◌, Bool, cond, List, Result, Ok, Err}
 use Rattle.answers.specs.declared.Told.{Told}
+use Rattle.answers.specs.declared.refused.Refused.{Refused as Why}
+use Rattle.answers.specs.Refused.{number}
 use Rattle.answers.specs.Sizes.{least_label}
 use Rattle.answers.specs.Call.{Refusal, ◌then◌, Outcome, told, told_and_left}
 use Rattle.answers.specs.Rows.{Bytes, Mark, shorter}
@@ -25,6 +27,11 @@ label_refusals n table x label = flow_refusals (shorter label least_label) n tab
 pub record Answered (Right : ℕ → Type 0) (result : Told) : Type 0 where
   pub answer : result.answer ≡ 0
   pub right : Right result.value
+
+-- "a definition gives this paper's number and values for each of its cases": what `flows` tells, 1 for yes and 0 for no
+abbrev pub yes_or_no : Result Bool Why → Told
+yes_or_no (Ok flows) = told 0 (cond flows 1 0)
+yes_or_no (Err why) = told (number why) 0
 
 -- the contract of `flows`: 1 if x flows to y, 0 if not
 abbrev pub Flows : ℕ → List ℕ → ℕ → ℕ → Told → Type 0

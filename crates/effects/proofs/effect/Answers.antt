@@ -1,7 +1,7 @@
--- `effects::effect` meets its contract: what is refused, and what is written.
-use mathlib.Core.Path.{sym, ◌∙◌}
-use Rattle.effects.proofs.Outcomes.{affecting}
+-- `effects::effect` meets its contract: the buffer that passed 1 has room for the effects.
+use mathlib.Core.Path.{sym}
+use Rattle.effects.proofs.Passed.{effect_long}
 use Rattle.effects.proofs.effect.Goals as goal
 
-pub fill_effects-requires : goal.fill_effects-requires
-fill_effects-requires c = affecting _ _ _ _ (sym c.effect_refusal-refusal.ensures ∙ c.if-refusal-ne0.false)
+pub fill-requires : goal.fill-requires
+fill-requires c = effect_long _ _ _ _ (sym c.in_ok-change.ensures.judged)

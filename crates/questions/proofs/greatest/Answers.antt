@@ -1,14 +1,16 @@
 -- `questions::greatest` meets its contract: each return by what its callees answered.
-use mathlib.Core.Path.{sym, ◌∙◌}
+use mathlib.Core.Path.{sym}
 use Rattle.questions.proofs.Asked.{asked_passed}
 use Rattle.questions.proofs.Outcomes.{asked_refused, asked_done}
 use Rattle.questions.proofs.greatest.Goals as goal
 
-pub returns-then-refusal-ne0 : goal.returns-then-refusal-ne0
-returns-then-refusal-ne0 c = asked_refused _ _ _ _ c.asked_refusal-refusal.ensures c.if-refusal-ne0.true
+pub returns-in_err-square : goal.returns-in_err-square
+returns-in_err-square c = asked_refused _ _ _ _ _ c.from_residual.ensures.1 c.in_err-square.ensures.judged
 
 pub flags-requires : goal.flags-requires
-flags-requires c = (asked_passed _ _ _ _ (sym c.asked_refusal-refusal.ensures ∙ c.if-refusal-ne0.false)).1
+flags-requires c = rw c.in_ok-square.ensures.lent.0 (asked_passed _ _ _ _ (sym c.in_ok-square.ensures.judged)).1.below
 
 pub returns : goal.returns
-returns c = asked_done _ _ _ _ (sym c.asked_refusal-refusal.ensures ∙ c.if-refusal-ne0.false) c.flags.ensures
+returns c =
+    let lent = c.in_ok-square.ensures.lent in
+    asked_done _ _ _ _ c.in_ok-square.ensures.judged (rw (lent.0, lent.1) at c.flags.ensures)

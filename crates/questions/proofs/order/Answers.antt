@@ -1,15 +1,17 @@
--- `questions::order` meets its contract: each return by the bytes there and back.
-use Rattle.questions.proofs.Standing.{stand_equal, stand_below, stand_above, stand_apart}
+-- `questions::order` meets its contract: each arm by the bytes there and back.
+use Rattle.theory.specs.Order.{both, only_there, only_back, neither}
+use Rattle.questions.proofs.Standing.{flows_by, no_flow_by}
 use Rattle.questions.proofs.order.Goals as goal
 
-pub returns-then-back-eq1 : goal.returns-then-back-eq1
-returns-then-back-eq1 c = stand_equal _ _ _ _ _ _ c.flow_byte-there.ensures c.flow_byte-back.ensures c.if-there-eq1.true c.if-back-eq1.true
+pub returns-in-true-true : goal.returns-in-true-true
+returns-in-true-true c =
+    both (flows_by _ _ _ _ c.requires.0 c.requires.1 c.in-true-true.ensures) (flows_by _ _ _ _ c.requires.1 c.requires.0 c.in-true-true.ensures')
 
-pub returns-then-there-eq1 : goal.returns-then-there-eq1
-returns-then-there-eq1 c = stand_below _ _ _ _ _ _ c.flow_byte-there.ensures c.flow_byte-back.ensures c.if-there-eq1.true c.if-back-eq1.false
+pub returns-in-true-false : goal.returns-in-true-false
+returns-in-true-false c = only_there (flows_by _ _ _ _ c.requires.0 c.requires.1 c.in-true-false.ensures) (no_flow_by _ _ _ _ c.in-true-false.ensures')
 
-pub returns-then-back-eq1-2 : goal.returns-then-back-eq1-2
-returns-then-back-eq1-2 c = stand_above _ _ _ _ _ _ c.flow_byte-there.ensures c.flow_byte-back.ensures c.if-there-eq1.false c.if-back-eq1-2.true
+pub returns-in-false-true : goal.returns-in-false-true
+returns-in-false-true c = only_back (no_flow_by _ _ _ _ c.in-false-true.ensures) (flows_by _ _ _ _ c.requires.1 c.requires.0 c.in-false-true.ensures')
 
-pub returns : goal.returns
-returns c = stand_apart _ _ _ _ _ _ c.flow_byte-there.ensures c.flow_byte-back.ensures c.if-there-eq1.false c.if-back-eq1-2.false
+pub returns-in-false-false : goal.returns-in-false-false
+returns-in-false-false c = neither (no_flow_by _ _ _ _ c.in-false-false.ensures) (no_flow_by _ _ _ _ c.in-false-false.ensures')

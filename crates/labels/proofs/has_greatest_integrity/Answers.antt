@@ -1,0 +1,12 @@
+-- `labels::has_greatest_integrity` meets its contract: `any` found an entity that leaves for x, or there is none.
+use Rattle.std.proofs.Common.{rules}
+use Rattle.labels.specs.Inner.{FlowsOn}
+use Rattle.labels.proofs.Ranged.{any_from_Range}
+use Rattle.labels.proofs.Answering.{integral}
+use Rattle.labels.proofs.has_greatest_integrity.Goals as goal
+
+pub returns : goal.returns
+returns c =
+    let t = c.args.table in
+    integral t.n t.bytes.now c.args.x _
+    (any_from_Range _ _ _ _ (λ y. FlowsOn t.n t.bytes.now y c.args.x) c.any.ensures.ran (λ y q h. search rules) (λ y q h. (search rules, search rules)))
