@@ -14,12 +14,12 @@ use Rattle.scribe.specs.declared.Pen.{Pen}
 use Rattle.scribe.specs.Put.{Puts, Room}
 
 -- ---- the text of frames
-pub text_append : (fs gs : List Frame) → text_of (fs ++ gs) ≡ text_of fs ++ text_of gs
+text_append : (fs gs : List Frame) → text_of (fs ++ gs) ≡ text_of fs ++ text_of gs
 unfolding text_of
 text_append [] gs = refl
 text_append (f ∷ fs) gs = rw (text_append fs gs, append_assoc)
 
-pub text_sizes : (fs gs : List Frame) → length (text_of (fs ++ gs)) ≡ length (text_of fs) + length (text_of gs)
+text_sizes : (fs gs : List Frame) → length (text_of (fs ++ gs)) ≡ length (text_of fs) + length (text_of gs)
 text_sizes fs gs = rw (text_append, length-append)
 
 pub text_one : (f : Frame) → text_of (f ∷ []) ≡ line_of (frame_bytes f)

@@ -44,6 +44,19 @@ module _ (l : Lent) (count : ℕ) (separations : List ℕ) where
   unfolding frames_in opened body sheet_of
   in_order_lem = rw (append_assoc, append_assoc)
 
+  -- of the lines of a sheet, which are to be written at the start of a text, these are left
+  pub record Ahead (text : List ℕ) (left : List Frame) (pen : Pen) : Type 0 where
+    pub start : MutBor (List ℕ)
+    pub same : start.now ≡ text
+    pub lines : Left in_order left (record { text = start; at = 0; lines = 0 }) pen
+
+  module _ {text : List ℕ} {pen : Pen} where
+    pub ahead_room : (fs gs : List Frame) → Ahead text (fs ++ gs) pen → Room fs pen
+    ahead_room fs gs a = room_first fs gs a.lines
+
+    pub ahead_less : {fs gs : List Frame} {next : Pen} → Ahead text (fs ++ gs) pen → Puts fs pen next → Ahead text gs next
+    ahead_less a p = record { start = a.start; same = a.same; lines = less_left a.lines p }
+
   module _ {text : List ℕ} (ready : Scribable l count separations text) where
     -- the text, and the count of its lines, are small
     text_small : length (text_of (frames_in (sheet_of l count separations))) ≤ least_text
@@ -55,19 +68,12 @@ module _ (l : Lent) (count : ℕ) (separations : List ℕ) where
     lines_small =
         omega (arith, text_small, lines_few (frames_in (sheet_of l count separations)), length-append (opened (sheet_of l count separations)) (closing line_count ∷ []))
 
-  -- of the lines of a sheet, which are to be written at the start of a text, these are left
-  pub record Ahead (text : List ℕ) (left : List Frame) (pen : Pen) : Type 0 where
-    pub start : MutBor (List ℕ)
-    pub same : start.now ≡ text
-    pub lines : Left in_order left (record { text = start; at = 0; lines = 0 }) pen
-
-  module _ {text : List ℕ} (ready : Scribable l count separations text) where
     pub ahead_all : (start : MutBor (List ℕ)) → start.now ≡ text → Ahead text in_order (record { text = start; at = 0; lines = 0 })
     ahead_all start e =
         record {
           start = start;
           same = e;
-          lines = all_left (record { fits = rw (← in_order_lem, e) (omega (arith, text_small ready, ready.text_long)); few = omega arith });
+          lines = all_left (record { fits = rw (← in_order_lem, e) (omega (arith, text_small, ready.text_long)); few = omega arith });
         }
 
     -- the line that is left is the end, and all others are counted
@@ -77,7 +83,7 @@ module _ (l : Lent) (count : ℕ) (separations : List ℕ) where
       all_counted = omega (arith, a.lines.count, ap length in_order_lem, length-append (opened (sheet_of l count separations)) from_end)
 
       pub lines_bound : pen.lines < 65536
-      lines_bound = rw all_counted (lines_small ready)
+      lines_bound = rw all_counted (lines_small)
 
       end_is : closing pen.lines ≡ closing line_count
       end_is = ap closing all_counted
@@ -95,12 +101,5 @@ module _ (l : Lent) (count : ℕ) (separations : List ℕ) where
             text =
                 e
                 ∙ frames.text
-                ∙ rw a.same (sets-eq (text_of (frames_in (sheet_of l count separations))) text 0 (omega (arith, text_small ready, ready.text_long)) ∙ rw zero-add);
+                ∙ rw a.same (sets-eq (text_of (frames_in (sheet_of l count separations))) text 0 (omega (arith, text_small, ready.text_long)) ∙ rw zero-add);
           }
-
-  module _ {text : List ℕ} {pen : Pen} where
-    pub ahead_room : (fs gs : List Frame) → Ahead text (fs ++ gs) pen → Room fs pen
-    ahead_room fs gs a = room_first fs gs a.lines
-
-    pub ahead_less : {fs gs : List Frame} {next : Pen} → Ahead text (fs ++ gs) pen → Puts fs pen next → Ahead text gs next
-    ahead_less a p = record { start = a.start; same = a.same; lines = less_left a.lines p }

@@ -97,14 +97,13 @@ impl<'a> Pen<'a> {
         }
     }
 
-    // The lines of separations, each of two bytes.
-    fn put_separated(&mut self, count: usize, separations: &[u8])
-        requires count_in_bounds { 2 * count ≤ length separations.now }
-        requires room { Room (separates (take (2 * count) separations.now)) self.old }
+    // The lines of separations, each a pair of bytes.
+    fn put_separated(&mut self, pairs: &[u8])
+        requires { Room (separates pairs.now) self.old }
         ensures same_text { self.new.text.ghost_name ≡ self.old.text.ghost_name }
-        ensures lines { Puts (separates (take (2 * count) separations.now)) self.old self.new }
+        ensures lines { Puts (separates pairs.now) self.old self.new }
     {
-        for pair in separations[..2 * count].chunks_exact(2) {
+        for pair in pairs.chunks_exact(2) {
             self.put_frame(Frame::Separate(pair[0], pair[1]));
         }
     }
@@ -146,7 +145,7 @@ pub fn write_tables(sheet: Tables, count: usize, separations: &[u8], text: &mut 
         sheet.permission,
         Frame::Permit,
     );
-    pen.put_separated(count, separations);
+    pen.put_separated(&separations[..2 * count]);
     pen.put_end();
     pen.at
 }

@@ -48,8 +48,8 @@ put_table-requires-2-clause-frames c =
     let before = after_assigned (goal.at.put_table-requires-2-clause-frames c).After-put_table in
     (permit_at c.args.sheet.counts.objects, record { made = λ i byte f e. search rules; room = ahead_room _ _ _ _ _ before })
 
-pub put_separated-requires-clause-room : goal.put_separated-requires-clause-room
-put_separated-requires-clause-room c = ahead_room _ _ _ _ _ (after_permitted (goal.at.put_separated-requires-clause-room c).After-put_table-2)
+pub put_separated-requires : goal.put_separated-requires
+put_separated-requires c = ahead_room _ _ _ _ _ (after_permitted (goal.at.put_separated-requires c).After-put_table-2)
 
 pub put_end-requires-clause-lines_bound : goal.put_end-requires-clause-lines_bound
 put_end-requires-clause-lines_bound c = lines_bound _ _ _ c.requires (after_separated (goal.at.put_end-requires-clause-lines_bound c).After-put_separated)

@@ -1,9 +1,8 @@
 -- `scribe::Pen::put_separated` meets its contract: the lines of the pairs to come are left to write.
-use Prim.Native.Nat.{◌*◌}
 use mathlib.Core.Path.{refl, ◌∙◌}
 use mathlib.Core.List.{[], ◌∷◌, ◌++◌}
 use native.Mathlib.Omega.{arith}
-use lib.ListN.{get_or, take}
+use lib.ListN.{get_or}
 use Rattle.std.specs.Slice.Iter.{chunks_exact_rest}
 use Rattle.frames.specs.declared.Frame.TheVariants.{Separate}
 use Rattle.text.specs.Content.{separates}
@@ -15,11 +14,11 @@ use Rattle.scribe.proofs.Pen.put_separated.Goals.{In-Some}
 pub loop-pair-init : goal.loop-pair-init
 loop-pair-init c =
     rw c.into_iter-pair-iterator.ensures.into_iter_gives
-    (record { same_text = refl; pairs = c.chunks_exact-pair-items.ensures.size; left = rw c.chunks_exact-pair-items.ensures.rest (all_left c.requires.room) })
+    (record { same_text = refl; pairs = c.chunks_exact-pair-items.ensures.size; left = rw c.chunks_exact-pair-items.ensures.rest (all_left c.requires) })
 
 -- the pair's line is the first of those that are left
 pair_left : (c : In-Some) →
-    Left (separates (take (2 * c.args.count) c.args.separations.now))
+    Left (separates c.args.pairs.now)
     ((Separate (get_or c.in-Some.pair.now 0 0) (get_or c.in-Some.pair.now 1 0) ∷ []) ++ separates (chunks_exact_rest c.next.new.self))
     c.args.self.now c.loop-pair.self
 pair_left c =

@@ -1,7 +1,5 @@
 -- `scribe::Pen::put_separated` meets its contract: the lines of the pairs to come are left to write.
-use Prim.Native.Nat.{◌*◌}
 use mathlib.Core.Path.{◌≡◌}
-use lib.ListN.{take}
 use Rattle.std.specs.Slice.Iter.{chunks_exact_rest, chunks_exact_size}
 use Rattle.text.specs.Content.{separates}
 use Rattle.scribe.proofs.PutLaws.{Left}
@@ -12,5 +10,5 @@ invariant-loop-pair l =
     record {
       same_text : l.self.text.ghost_name ≡ l.initial.self.text.ghost_name;
       pairs : chunks_exact_size l.pair-iterator ≡ 2;
-      left : Left (separates (take (2 * l.count) l.separations)) (separates (chunks_exact_rest l.pair-iterator)) l.initial.self l.self;
+      left : Left (separates l.pairs) (separates (chunks_exact_rest l.pair-iterator)) l.initial.self l.self;
     }
