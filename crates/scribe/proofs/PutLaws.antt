@@ -1,5 +1,5 @@
 -- Lines written one after another: what was written first and then more is written as one.
-use Prim.Native.Nat.{ℕ, ◌+◌, ◌≤◌}
+use Prim.Native.Nat.{◌+◌, ◌≤◌}
 use mathlib.Core.Path.{◌≡◌, ap, refl, sym, ◌∙◌}
 use mathlib.Core.List.{List, [], ◌∷◌, ◌++◌, append_assoc, append-nil}
 use native.Mathlib.Omega.{arith}
@@ -7,7 +7,6 @@ use lib.ListN.{length, length-append}
 use lib.Seq.{length-sets}
 use Rattle.digits.specs.Digit.{to_digits}
 use Rattle.digits.specs.Line.{line_of}
-use Rattle.digits.specs.Inner.{Put}
 use Rattle.digits.proofs.Puts.{sets_append}
 use Rattle.frames.specs.declared.Frame.{Frame}
 use Rattle.frames.specs.Frame.{frame_bytes, text_of}
@@ -15,12 +14,12 @@ use Rattle.scribe.specs.declared.Pen.{Pen}
 use Rattle.scribe.specs.Put.{Puts, Room}
 
 -- ---- the text of frames
-pub text_append : (fs gs : List Frame) → text_of (fs ++ gs) ≡ text_of fs ++ text_of gs
+text_append : (fs gs : List Frame) → text_of (fs ++ gs) ≡ text_of fs ++ text_of gs
 unfolding text_of
 text_append [] gs = refl
 text_append (f ∷ fs) gs = rw (text_append fs gs, append_assoc)
 
-pub text_sizes : (fs gs : List Frame) → length (text_of (fs ++ gs)) ≡ length (text_of fs) + length (text_of gs)
+text_sizes : (fs gs : List Frame) → length (text_of (fs ++ gs)) ≡ length (text_of fs) + length (text_of gs)
 text_sizes fs gs = rw (text_append, length-append)
 
 pub text_one : (f : Frame) → text_of (f ∷ []) ≡ line_of (frame_bytes f)
@@ -39,44 +38,50 @@ lines_few (f ∷ fs) =
       lines_few fs,
     )
 
--- ---- what is written
-module _ {fs : List Frame} {pen : Pen} {before : List ℕ} {next : Pen} {after : List ℕ} (p : Puts fs pen before next after) where
-  -- the buffer keeps its length
-  pub puts_long : length after ≡ length before
-  puts_long = ap length p.text ∙ length-sets before pen.at (text_of fs)
+-- ---- what is written, and what is left to write
+-- the buffer keeps its length
+puts_long : {fs : List Frame} {pen next : Pen} → Puts fs pen next → length next.text.now ≡ length pen.text.now
+puts_long {fs} {pen} p = ap length p.text ∙ length-sets pen.text.now pen.at (text_of fs)
 
-  -- and then more
-  pub puts_then : {gs : List Frame} {last : Pen} {end : List ℕ} → Puts gs next after last end → Puts (fs ++ gs) pen before last end
-  puts_then {gs} {last} {end} q =
+module _ {fs gs : List Frame} {pen next : Pen} (p : Puts fs pen next) where
+  -- what is written then comes behind it
+  puts_then : {last : Pen} → Puts gs next last → Puts (fs ++ gs) pen last
+  puts_then {last} q =
       record {
         place = omega (arith, p.place, q.place, text_sizes fs gs);
         count = omega (arith, p.count, q.count, length-append fs gs);
-        text = q.text ∙ rw (p.text, p.place, text_append) (sym (sets_append before pen.at (text_of fs) (text_of gs)));
+        text = q.text ∙ rw (p.text, p.place, text_append) (sym (sets_append pen.text.now pen.at (text_of fs) (text_of gs)));
       }
 
   -- there is room for more where there was room for all
-  pub room_then : {gs : List Frame} → Room (fs ++ gs) pen before → Room gs next after
-  room_then {gs} r =
+  room_then : Room (fs ++ gs) pen → Room gs next
+  room_then r =
       record {
-        fits = omega (arith, r.fits, p.place, text_sizes fs gs, puts_long);
+        fits = omega (arith, r.fits, p.place, text_sizes fs gs, puts_long p);
         few = omega (arith, r.few, p.place, p.count, lines_few fs);
       }
 
--- nothing
-pub puts_none : (pen : Pen) (text : List ℕ) → Puts [] pen text pen text
-unfolding text_of
-puts_none pen text = record { place = omega arith; count = omega arith; text = refl }
+-- of all lines, which are to be written from `start` on, these are left: there is room for them, and with them all are written
+pub record Left (all left : List Frame) (start pen : Pen) : Type 0 where
+  pub room : Room left pen
+  pub count : pen.lines + length left ≡ start.lines + length all
+  pub whole : (last : Pen) → Puts left pen last → Puts all start last
 
--- one line
-pub puts_one : (f : Frame) (pen : Pen) (before : List ℕ) (next : Pen) (after : List ℕ) → Put (line_of (frame_bytes f)) pen.at before next.at after →
-    next.lines ≡ pen.lines + 1 → Puts (f ∷ []) pen before next after
-puts_one f pen before next after p e =
-    record {
-      place = rw (text_one f) p.place;
-      count = e;
-      text = rw (text_one f) p.text;
-    }
+pub all_left : {all : List Frame} {start : Pen} → Room all start → Left all all start start
+all_left r = record { room = r; count = refl; whole = λ last p. p }
 
--- room for the first of some lines
-pub room_first : (fs gs : List Frame) (pen : Pen) (text : List ℕ) → Room (fs ++ gs) pen text → Room fs pen text
-room_first fs gs pen text r = record { fits = omega (arith, r.fits, text_sizes fs gs); few = r.few }
+module _ {all : List Frame} {start pen : Pen} where
+  pub room_first : (fs gs : List Frame) → Left all (fs ++ gs) start pen → Room fs pen
+  room_first fs gs l = record { fits = omega (arith, l.room.fits, text_sizes fs gs); few = l.room.few }
+
+  pub less_left : {fs gs : List Frame} {next : Pen} → Left all (fs ++ gs) start pen → Puts fs pen next → Left all gs start next
+  less_left {fs} {gs} l p =
+      record {
+        room = room_then p l.room;
+        count = omega (arith, l.count, p.count, length-append fs gs);
+        whole = λ last q. l.whole last (puts_then p q);
+      }
+
+  pub none_left : Left all [] start pen → Puts all start pen
+  unfolding text_of
+  none_left l = l.whole pen (record { place = omega arith; count = omega arith; text = refl })

@@ -1,15 +1,15 @@
--- The frames of a sheet, part after part: room for each, and the whole text once all are written.
-use Prim.Native.Nat.{ℕ, ◌+◌, ◌*◌, ◌≤◌, ◌<◌}
-use mathlib.Core.Path.{◌≡◌, sym, subst, ◌∙◌}
+-- The frames of a sheet, part after part: there is room for all, and in the end the text is whole.
+use Prim.Native.Nat.{ℕ, ◌*◌, ◌≤◌, ◌<◌}
+use mathlib.Core.Path.{◌≡◌, ap, ◌∙◌}
 use mathlib.Core.List.{List, [], ◌∷◌, ◌++◌, append_assoc}
 use native.Mathlib.Nat.{zero-add}
 use native.Mathlib.Omega.{arith}
+use denote.Ref.{MutBor}
 use lib.ListN.{length, take, length-append}
 use lib.Seq.{sets-eq}
 use Rattle.answers.specs.Sizes.{least_text}
 use Rattle.answers.specs.Rows.{over}
 use Rattle.tables.specs.Sheet.{Lent, sheet_of}
-use Rattle.answers.proofs.Products.{product_within}
 use Rattle.tables.proofs.Sounds.{sound_of}
 use Rattle.frames.specs.declared.Frame.{Frame}
 use Rattle.frames.specs.declared.Frame.TheVariants.{Header}
@@ -17,115 +17,89 @@ use Rattle.frames.specs.Frame.{text_of}
 use Rattle.text.specs.Content.{present, assign_at, permit_at, separates, body, opened, closing, frames_in, write_sheet}
 use Rattle.text.proofs.RoundTrip.{written_fits}
 use Rattle.scribe.specs.declared.Pen.{Pen}
-use Rattle.scribe.specs.Put.{pen_at, Puts, Room, Table, Scribable, Written}
-use Rattle.scribe.proofs.PutLaws.{puts_then, room_then, room_first, lines_few}
-
--- ---- the parts of a sheet's frames
-abbrev header_of : Lent → List Frame
-header_of l = Header l.counts.subjects l.counts.objects l.counts.roles ∷ []
-
-abbrev assigned_of : Lent → List Frame
-assigned_of l = present (assign_at l.counts.roles) 0 (take (l.counts.subjects * l.counts.roles) l.assignment)
-
-abbrev permitted_of : Lent → List Frame
-permitted_of l = present (permit_at l.counts.objects) 0 (take (l.counts.roles * l.counts.objects) l.permission)
-
-abbrev separated_of : ℕ → List ℕ → List Frame
-separated_of count separations = separates (take (2 * count) separations)
+use Rattle.scribe.specs.Put.{Puts, Room, Scribable, Written}
+use Rattle.scribe.proofs.PutLaws.{Left, all_left, room_first, less_left, lines_few}
 
 module _ (l : Lent) (count : ℕ) (separations : List ℕ) where
   abbrev line_count : ℕ
   line_count = length (opened (sheet_of l count separations))
 
-  abbrev in_order : List Frame
-  in_order = header_of l ++ (assigned_of l ++ (permitted_of l ++ (separated_of count separations ++ (closing line_count ∷ []))))
+  -- the frames of a sheet, and those from each part of it on
+  abbrev pub from_end : List Frame
+  from_end = closing line_count ∷ []
+
+  abbrev pub from_separations : List Frame
+  from_separations = separates (take (2 * count) separations) ++ from_end
+
+  abbrev pub from_permissions : List Frame
+  from_permissions = present (permit_at l.counts.objects) 0 (take (l.counts.roles * l.counts.objects) l.permission) ++ from_separations
+
+  abbrev pub from_assignments : List Frame
+  from_assignments = present (assign_at l.counts.roles) 0 (take (l.counts.subjects * l.counts.roles) l.assignment) ++ from_permissions
+
+  abbrev pub in_order : List Frame
+  in_order = (Header l.counts.subjects l.counts.objects l.counts.roles ∷ []) ++ from_assignments
 
   in_order_lem : frames_in (sheet_of l count separations) ≡ in_order
   unfolding frames_in opened body sheet_of
   in_order_lem = rw (append_assoc, append_assoc)
 
-  line_count_lem : length (header_of l) + length (assigned_of l) + length (permitted_of l) + length (separated_of count separations) ≡ line_count
-  unfolding opened body sheet_of
-  line_count_lem =
-      omega (
-        arith,
-        length-append (assigned_of l) (permitted_of l ++ separated_of count separations),
-        length-append (permitted_of l) (separated_of count separations),
-      )
+  -- of the lines of a sheet, which are to be written at the start of a text, these are left
+  pub record Ahead (text : List ℕ) (left : List Frame) (pen : Pen) : Type 0 where
+    pub start : MutBor (List ℕ)
+    pub same : start.now ≡ text
+    pub lines : Left in_order left (record { text = start; at = 0; lines = 0 }) pen
+
+  module _ {text : List ℕ} {pen : Pen} where
+    pub ahead_room : (fs gs : List Frame) → Ahead text (fs ++ gs) pen → Room fs pen
+    ahead_room fs gs a = room_first fs gs a.lines
+
+    pub ahead_less : {fs gs : List Frame} {next : Pen} → Ahead text (fs ++ gs) pen → Puts fs pen next → Ahead text gs next
+    ahead_less a p = record { start = a.start; same = a.same; lines = less_left a.lines p }
 
   module _ {text : List ℕ} (ready : Scribable l count separations text) where
-    pub assignment_table : Table l.counts.subjects l.counts.roles l.assignment
-    assignment_table =
-        record {
-          rows_fit = omega (arith, ready.sized.counts_fit.subjects);
-          width_fits = omega (arith, ready.sized.counts_fit.roles);
-          used = product_within _ _ 48 48 _ ready.sized.counts_fit.subjects ready.sized.counts_fit.roles ready.sized.assignment;
-        }
-
-    pub permission_table : Table l.counts.roles l.counts.objects l.permission
-    permission_table =
-        record {
-          rows_fit = omega (arith, ready.sized.counts_fit.roles);
-          width_fits = omega (arith, ready.sized.counts_fit.objects);
-          used = product_within _ _ 48 64 _ ready.sized.counts_fit.roles ready.sized.counts_fit.objects ready.sized.permission;
-        }
-
-    pub separations_room : 2 * count ≤ length separations
-    separations_room = omega (arith, ready.listed.few, ready.separations_long)
-
     -- the text, and the count of its lines, are small
     text_small : length (text_of (frames_in (sheet_of l count separations))) ≤ least_text
     unfolding write_sheet
-    text_small = written_fits (sound_of l count separations ready.sized separations_room ready.listed)
+    text_small = written_fits (sound_of l count separations ready.sized (omega (arith, ready.listed.few, ready.separations_long)) ready.listed)
 
     lines_small : line_count < 65536
     unfolding frames_in
     lines_small =
         omega (arith, text_small, lines_few (frames_in (sheet_of l count separations)), length-append (opened (sheet_of l count separations)) (closing line_count ∷ []))
 
-    room_all : Room in_order (pen_at 0 0) text
-    room_all = record { fits = rw (← in_order_lem) (omega (arith, text_small, ready.text_long)); few = omega arith }
+    pub ahead_all : (start : MutBor (List ℕ)) → start.now ≡ text → Ahead text in_order (record { text = start; at = 0; lines = 0 })
+    ahead_all start e =
+        record {
+          start = start;
+          same = e;
+          lines = all_left (record { fits = rw (← in_order_lem, e) (omega (arith, text_small, ready.text_long)); few = omega arith });
+        }
 
-    -- each part in its turn, where those before it are written
-    module _ {pen₁ : Pen} {text₁ : List ℕ} (h : Puts (header_of l) (pen_at 0 0) text pen₁ text₁) where
-      after_header : Room (assigned_of l ++ (permitted_of l ++ (separated_of count separations ++ (closing line_count ∷ [])))) pen₁ text₁
-      after_header = room_then h room_all
+    -- the line that is left is the end, and all others are counted
+    module _ {pen : Pen} (a : Ahead text from_end pen) where
+      all_counted : pen.lines ≡ line_count
+      unfolding frames_in
+      all_counted = omega (arith, a.lines.count, ap length in_order_lem, length-append (opened (sheet_of l count separations)) from_end)
 
-      pub room_assigned : Room (assigned_of l) pen₁ text₁
-      room_assigned = room_first (assigned_of l) _ pen₁ text₁ after_header
+      pub lines_bound : pen.lines < 65536
+      lines_bound = rw all_counted (lines_small)
 
-      module _ {pen₂ : Pen} {text₂ : List ℕ} (a : Puts (assigned_of l) pen₁ text₁ pen₂ text₂) where
-        after_assigned : Room (permitted_of l ++ (separated_of count separations ++ (closing line_count ∷ []))) pen₂ text₂
-        after_assigned = room_then a after_header
+      end_is : closing pen.lines ≡ closing line_count
+      end_is = ap closing all_counted
 
-        pub room_permitted : Room (permitted_of l) pen₂ text₂
-        room_permitted = room_first (permitted_of l) _ pen₂ text₂ after_assigned
+      pub end_room : Room (closing pen.lines ∷ []) pen
+      end_room = rw end_is a.lines.room
 
-        module _ {pen₃ : Pen} {text₃ : List ℕ} (m : Puts (permitted_of l) pen₂ text₂ pen₃ text₃) where
-          after_permitted : Room (separated_of count separations ++ (closing line_count ∷ [])) pen₃ text₃
-          after_permitted = room_then m after_assigned
-
-          pub room_separated : Room (separated_of count separations) pen₃ text₃
-          room_separated = room_first (separated_of count separations) _ pen₃ text₃ after_permitted
-
-          module _ {pen₄ : Pen} {text₄ : List ℕ} (q : Puts (separated_of count separations) pen₃ text₃ pen₄ text₄) where
-            counted : pen₄.lines ≡ line_count
-            counted = omega (arith, h.count, a.count, m.count, q.count, line_count_lem)
-
-            pub room_end : (pen₄.lines < 65536) × Room (closing pen₄.lines ∷ []) pen₄ text₄
-            room_end =
-                (rw counted lines_small, subst (λ (n : ℕ). Room (closing n ∷ []) pen₄ text₄) (sym counted) (room_then q after_permitted))
-
-            pub all_written : {pen₅ : Pen} {text₅ : List ℕ} → Puts (closing pen₄.lines ∷ []) pen₄ text₄ pen₅ text₅ →
-                Written (sheet_of l count separations) text pen₅.at text₅
-            unfolding write_sheet over
-            all_written {pen₅} {text₅} e =
-                let end : Puts (closing line_count ∷ []) pen₄ text₄ pen₅ text₅ =
-                subst (λ (n : ℕ). Puts (closing n ∷ []) pen₄ text₄ pen₅ text₅) counted e
-                in
-                let whole : Puts in_order (pen_at 0 0) text pen₅ text₅ = puts_then h (puts_then a (puts_then m (puts_then q end))) in
-                let frames : Puts (frames_in (sheet_of l count separations)) (pen_at 0 0) text pen₅ text₅ = rw in_order_lem whole in
-                record {
-                  size = omega (arith, frames.place);
-                  text = frames.text ∙ sets-eq (text_of (frames_in (sheet_of l count separations))) text 0 (omega (arith, text_small, ready.text_long)) ∙ rw zero-add;
-                }
+      pub all_written : {last : Pen} {after : List ℕ} → Puts (closing pen.lines ∷ []) pen last → after ≡ last.text.now →
+          Written (sheet_of l count separations) text last.at after
+      unfolding write_sheet over
+      all_written {last} p e =
+          let frames = rw (← in_order_lem) at (a.lines.whole last (rw end_is at p)) in
+          record {
+            size = omega (arith, frames.place);
+            text =
+                e
+                ∙ frames.text
+                ∙ rw a.same (sets-eq (text_of (frames_in (sheet_of l count separations))) text 0 (omega (arith, text_small, ready.text_long)) ∙ rw zero-add);
+          }

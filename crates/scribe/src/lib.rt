@@ -1,16 +1,18 @@
 // The text of a sheet, written from its tables.
 #![tactic(auto)]
 
-ghost use Rattle.std.specs.Prelude.{◌≡◌, [], ◌∷◌, ◌+◌, ◌*◌, ◌<◌, ◌≤◌, length, take};
-ghost use Rattle.tables.specs.Sheet.{lent, sheet_of};
+ghost use Rattle.std.specs.Prelude.{◌≡◌, ℕ, [], ◌∷◌, ◌+◌, ◌*◌, ◌<◌, ◌≤◌, length, take};
+ghost use Rattle.tables.specs.Sheet.{lent_by, sheet_of};
 ghost use Rattle.digits.specs.Line.{line_of};
 ghost use Rattle.digits.specs.Inner.{Put};
+ghost use Rattle.frames.specs.declared.Frame.{Frame as Line};
 ghost use Rattle.frames.specs.declared.Frame.TheVariants.{Header};
 ghost use Rattle.frames.specs.Frame.{frame_bytes};
 ghost use Rattle.text.specs.Content.{present, separates, closing};
-ghost use Rattle.scribe.specs.Put.{pen_at, Puts, Room, shown, frame_at, InRows, Table, Scribable, Written};
+ghost use Rattle.scribe.specs.Put.{Puts, Room, Frames, Table, Scribable, Written};
 
-use tables::Counts;
+use frames::Frame;
+use tables::{Counts, Tables};
 
 const HEADER: u8 = 1;
 
@@ -22,181 +24,128 @@ const SEPARATE: u8 = 4;
 
 const END: u8 = 5;
 
-// Where the next line goes, and how many lines stand before it.
-#[derive(Clone, Copy)]
-pub struct Pen {
-    pub at: usize,
-    pub lines: usize,
-}
-
-// A line of three bytes; the answer is the place past it.
-fn put_three(text: &mut [u8], at: usize, kind: u8, a: u8, b: u8) -> usize
-    requires { at + 7 ≤ length text.old }
-    ensures { Put (line_of (kind ∷ a ∷ b ∷ [])) at text.old result text.new }
-{
-    let bytes = [kind, a, b];
-    digits::put_line(text, at, &bytes)
-}
-
-// A line of four bytes.
-fn put_four(text: &mut [u8], at: usize, kind: u8, a: u8, b: u8, c: u8) -> usize
-    requires { at + 9 ≤ length text.old }
-    ensures { Put (line_of (kind ∷ a ∷ b ∷ c ∷ [])) at text.old result text.new }
-{
-    let bytes = [kind, a, b, c];
-    digits::put_line(text, at, &bytes)
-}
-
-// A frame's line.
-fn put_line(text: &mut [u8], at: usize, frame: frames::Frame) -> usize
+// A frame's line; the answer is the place past it.
+#[tactic(auto, unfolding(frames::specs::Frame::frame_bytes, digits::specs::Line::line_of, digits::specs::Digit::to_digits))]
+fn put_line(text: &mut [u8], at: usize, frame: Frame) -> usize
     requires { at + length (line_of (frame_bytes frame)) ≤ length text.old }
     ensures { Put (line_of (frame_bytes frame)) at text.old result text.new }
 {
     match frame {
-        frames::Frame::Header(s, o, r) => put_four(text, at, HEADER, s, o, r),
-        frames::Frame::Assign(s, r) => put_three(text, at, ASSIGN, s, r),
-        frames::Frame::Permit(r, o, m) => put_four(text, at, PERMIT, r, o, m),
-        frames::Frame::Separate(x, y) => put_three(text, at, SEPARATE, x, y),
-        frames::Frame::End(h, l) => put_three(text, at, END, h, l),
+        Frame::Header(s, o, r) => digits::put_line(text, at, &[HEADER, s, o, r]),
+        Frame::Assign(s, r) => digits::put_line(text, at, &[ASSIGN, s, r]),
+        Frame::Permit(r, o, m) => digits::put_line(text, at, &[PERMIT, r, o, m]),
+        Frame::Separate(x, y) => digits::put_line(text, at, &[SEPARATE, x, y]),
+        Frame::End(h, l) => digits::put_line(text, at, &[END, h, l]),
     }
 }
 
-// One line more.
-fn put_frame(text: &mut [u8], pen: Pen, frame: frames::Frame) -> Pen
-    requires { Room (frame ∷ []) pen text.old }
-    ensures { Puts (frame ∷ []) pen text.old result text.new }
-{
-    let at = put_line(text, pen.at, frame);
-    Pen {
-        at,
-        lines: pen.lines + 1,
-    }
+// A text that is being written: where its next line goes, and how many lines it has.
+#[derive(Drop)]
+struct Pen<'a> {
+    text: &'a mut [u8],
+    at: usize,
+    lines: usize,
 }
 
-// The frame of the byte at place `i` of a table with rows of `width` bytes: an assignment, or a permission whose mode is the byte.
-fn frame_at(permits: bool, width: usize, i: usize, byte: u8) -> frames::Frame
-    requires { InRows width i }
-    ensures { result ≡ frame_at permits width i byte }
-{
-    let row = (i / width) as u8;
-    let place = (i % width) as u8;
-    if permits {
-        return frames::Frame::Permit(row, place, byte);
+impl<'a> Pen<'a> {
+    // One line more.
+    fn put_frame(&mut self, frame: Frame)
+        requires { Room (frame ∷ []) self.old }
+        ensures same_text { self.new.text.ghost_name ≡ self.old.text.ghost_name }
+        ensures lines { Puts (frame ∷ []) self.old self.new }
+    {
+        self.at = put_line(self.text, self.at, frame);
+        self.lines += 1;
     }
-    frames::Frame::Assign(row, place)
-}
 
-// The line of that byte, where it is not 0.
-fn put_cell(text: &mut [u8], pen: Pen, permits: bool, width: usize, i: usize, byte: u8) -> Pen
-    requires in_rows { InRows width i }
-    requires room { Room (shown byte (frame_at permits width i byte)) pen text.old }
-    ensures { Puts (shown byte (frame_at permits width i byte)) pen text.old result text.new }
-{
-    let is_absent = byte == 0;
-    if is_absent {
-        return pen;
-    }
-    put_frame(text, pen, frame_at(permits, width, i, byte))
-}
-
-// The lines of a table of `rows` x `width` bytes.
-fn put_table(
-    text: &mut [u8],
-    start: Pen,
-    permits: bool,
-    rows: usize,
-    width: usize,
-    table: &[u8],
-) -> Pen
-    requires table { Table rows width table.now }
-    requires room { Room (present (frame_at permits width) 0 (take (rows * width) table.now)) start text.old }
-    ensures { Puts (present (frame_at permits width) 0 (take (rows * width) table.now)) start text.old result text.new }
-{
-    let used = rows * width;
-    let mut pen = start;
-    let mut i = 0;
-    while i < used {
-        pen = put_cell(text, pen, permits, width, i, table[i]);
-        i += 1;
-    }
-    pen
-}
-
-// The lines of `count` separations.
-fn put_separated(text: &mut [u8], start: Pen, count: usize, separations: &[u8]) -> Pen
-    requires count_in_bounds { 2 * count ≤ length separations.now }
-    requires room { Room (separates (take (2 * count) separations.now)) start text.old }
-    ensures { Puts (separates (take (2 * count) separations.now)) start text.old result text.new }
-{
-    let mut pen = start;
-    let mut i = 0;
-    while i < count {
-        let from = separations[2 * i];
-        let to = separations[2 * i + 1];
-        pen = put_frame(text, pen, frames::Frame::Separate(from, to));
-        i += 1;
-    }
-    pen
-}
-
-// The header's line, the first of a text.
-fn put_header(text: &mut [u8], counts: Counts) -> Pen
-    requires { (counts.subjects < 256) × (counts.objects < 256) × (counts.roles < 256) × (9 ≤ length text.old) }
-    ensures { Puts (Header counts.subjects counts.objects counts.roles ∷ []) (pen_at 0 0) text.old result text.new }
-{
-    let start = Pen { at: 0, lines: 0 };
-    put_frame(
-        text,
-        start,
-        frames::Frame::Header(
+    // The header's line, the first of a text.
+    fn put_header(&mut self, counts: Counts)
+        requires fit { (counts.subjects < 256) × (counts.objects < 256) × (counts.roles < 256) }
+        requires room { Room (Header counts.subjects counts.objects counts.roles ∷ []) self.old }
+        ensures same_text { self.new.text.ghost_name ≡ self.old.text.ghost_name }
+        ensures lines { Puts (Header counts.subjects counts.objects counts.roles ∷ []) self.old self.new }
+    {
+        self.put_frame(Frame::Header(
             counts.subjects as u8,
             counts.objects as u8,
             counts.roles as u8,
-        ),
-    )
-}
+        ));
+    }
 
-// The end's line, with the count of the lines before it.
-fn put_end(text: &mut [u8], pen: Pen) -> Pen
-    requires lines_bound { pen.lines < 65536 }
-    requires room { Room (closing pen.lines ∷ []) pen text.old }
-    ensures { Puts (closing pen.lines ∷ []) pen text.old result text.new }
-{
-    let high = (pen.lines / 256) as u8;
-    let low = (pen.lines % 256) as u8;
-    put_frame(text, pen, frames::Frame::End(high, low))
+    // A line for each byte that is not 0 of a table of `rows` x `width` bytes: `frame_of` its row, its place there, and the byte.
+    fn put_table<F: Fn(u8, u8, u8) -> Frame>(
+        &mut self,
+        rows: usize,
+        width: usize,
+        table: &[u8],
+        frame_of: F,
+    )
+        requires callable { F.IsAlwaysCallable frame_of }
+        requires table { Table rows width table.now }
+        requires frames { (frame : ℕ → ℕ → Line) × Frames (F.post frame_of) width (take (rows * width) table.now) self.old frame }
+        ensures same_text { self.new.text.ghost_name ≡ self.old.text.ghost_name }
+        ensures lines { (frame : ℕ → ℕ → Line) → Frames (F.post frame_of) width (take (rows * width) table.now) self.old frame → Puts (present frame 0 (take (rows * width) table.now)) self.old self.new }
+    {
+        let used = &table[..rows * width];
+        for (i, byte) in used.iter().enumerate() {
+            let is_present = *byte != 0;
+            if is_present {
+                let row = (i / width) as u8;
+                let place = (i % width) as u8;
+                self.put_frame(frame_of(row, place, *byte));
+            }
+        }
+    }
+
+    // The lines of separations, each a pair of bytes.
+    fn put_separated(&mut self, pairs: &[u8])
+        requires { Room (separates pairs.now) self.old }
+        ensures same_text { self.new.text.ghost_name ≡ self.old.text.ghost_name }
+        ensures lines { Puts (separates pairs.now) self.old self.new }
+    {
+        for pair in pairs.chunks_exact(2) {
+            self.put_frame(Frame::Separate(pair[0], pair[1]));
+        }
+    }
+
+    // The end's line, with the count of the lines before it.
+    fn put_end(&mut self)
+        requires lines_bound { self.old.lines < 65536 }
+        requires room { Room (closing self.old.lines ∷ []) self.old }
+        ensures same_text { self.new.text.ghost_name ≡ self.old.text.ghost_name }
+        ensures lines { Puts (closing self.old.lines ∷ []) self.old self.new }
+    {
+        let high = (self.lines / 256) as u8;
+        let low = (self.lines % 256) as u8;
+        self.put_frame(Frame::End(high, low));
+    }
 }
 
 // The one text of sound tables, at the start of the buffer; the answer is its length.
-pub fn write_tables(
-    counts: Counts,
-    assignment: &[u8],
-    permission: &[u8],
-    count: usize,
-    separations: &[u8],
-    text: &mut [u8],
-) -> usize
-    requires { Scribable (lent counts assignment.now permission.now) count separations.now text.old }
-    ensures { Written (sheet_of (lent counts assignment.now permission.now) count separations.now) text.old result text.new }
+pub fn write_tables(sheet: Tables, count: usize, separations: &[u8], text: &mut [u8]) -> usize
+    requires { Scribable (lent_by sheet) count separations.now text.old }
+    ensures { Written (sheet_of (lent_by sheet.entry) count separations.now) text.old result text.new }
 {
-    let header = put_header(text, counts);
-    let assigned = put_table(
+    let counts = sheet.counts;
+    let mut pen = Pen {
         text,
-        header,
-        false,
+        at: 0,
+        lines: 0,
+    };
+    pen.put_header(counts);
+    pen.put_table(
         counts.subjects,
         counts.roles,
-        assignment,
+        sheet.assignment,
+        |s, r, _| Frame::Assign(s, r),
     );
-    let permitted = put_table(
-        text,
-        assigned,
-        true,
+    pen.put_table(
         counts.roles,
         counts.objects,
-        permission,
+        sheet.permission,
+        Frame::Permit,
     );
-    let separated = put_separated(text, permitted, count, separations);
-    let end = put_end(text, separated);
-    end.at
+    pen.put_separated(&separations[..2 * count]);
+    pen.put_end();
+    pen.at
 }
