@@ -5,7 +5,7 @@ ghost use Rattle.std.specs.Prelude.{◌≡◌, ◌<◌, length};
 ghost use Rattle.answers.specs.Rows.{Bytes};
 ghost use Rattle.tables.specs.Sheet.{CountsFit, entities};
 ghost use Rattle.transfers.specs.Acts.{verdict_byte, acted};
-ghost use Rattle.transfers.specs.Transfers.{Comes};
+ghost use Rattle.transfers.specs.Transfers.{transfer, Comes};
 ghost use Rattle.steps.specs.Inner.{Tried, MovesWithin, Countable, noted, state, Steppable, Stepped};
 
 use answers::Square;
@@ -39,17 +39,17 @@ impl<'a> Network<'a> {
         }
     }
 
-    // What a transfer comes to.
-    fn come_to(self, transfer: Transfer) -> Act
-        ensures { Comes self.entry.counts (Bytes self.entry.channels.n self.entry.channels.bytes.now) transfer result }
+    // What a transfer comes to, by its three bytes.
+    fn come_to(self, subject: u8, object: u8, mode: u8) -> Act
+        ensures { Comes self.entry.counts (Bytes self.entry.channels.n self.entry.channels.bytes.now) (transfer subject object mode) result }
     {
-        let subject = transfer.subject as usize;
-        let object = transfer.object as usize;
+        let subject = subject as usize;
+        let object = object as usize;
         if subject >= self.counts.subjects || object >= self.counts.objects {
             return Act::OutOfRange;
         }
         let entity = self.counts.subjects + object;
-        match transfer.mode {
+        match mode {
             READ => self.try_move(entity, subject),
             WRITE => self.try_move(subject, entity),
             _ => Act::OutOfRange,
@@ -93,7 +93,7 @@ fn note(counts: &mut Tally, act: Act)
     }
 }
 
-// Makes transfer number k.
+// Makes transfer number k, taken apart.
 pub fn step(
     network: Network,
     transfer: Transfer,
@@ -105,7 +105,7 @@ pub fn step(
     requires { Steppable (entities network.counts) k (state marks verdicts counts) }
     ensures { Stepped network.entry.counts (Bytes network.entry.channels.n network.entry.channels.bytes.now) transfer k (state marks.entry verdicts.entry counts.entry) (state marks.exit verdicts.exit counts.exit) }
 {
-    let act = network.come_to(transfer);
+    let act = network.come_to(transfer.subject, transfer.object, transfer.mode);
     make(marks, act);
     verdicts[k] = verdict(act);
     note(counts, act);
