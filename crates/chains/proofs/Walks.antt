@@ -7,7 +7,7 @@ use native.Mathlib.Decide.{dec_le}
 use native.Mathlib.Omega.{arith}
 use lib.ListN.{length, get_or, set, drop, length-append}
 use lib.Seq.{drop-cons, set_at}
-use Rattle.std.specs.Prelude.{Option, Some, None}
+use Rattle.std.specs.Prelude.{Option, Some, None, IsSome}
 use Rattle.answers.specs.Rows.{over}
 use Rattle.theory.specs.Chain.{Best}
 use Rattle.theory.proofs.Chains.{Goes, ends, on, chain_goes, chain_flow, best_alone}
@@ -46,15 +46,19 @@ module _ {ch : ℕ → ℕ → Type 0} {n y : ℕ} {dist : List (Option ℕ)} (i
     nearer z c d = (c, known_by (known dist z) d (t.final z (inner v z c).1))
 
     -- there is one
-    pub goes_on : Smallest (λ w. ch v w × (known dist w ≡ Some k)) n None → ⊥
+    none_is_wrong : Smallest (λ w. ch v w × (known dist w ≡ Some k)) n None → ⊥
     unfolding Nearer
-    goes_on none = go (chain_goes here.chain)
+    none_is_wrong none = go (chain_goes here.chain)
       where
         go : Goes ch v y here.way → ⊥
         go (ends q f) = let e = ap length f in omega (arith, here.long)
         go (on z m f c u) =
             let long : length m ≡ suc k = let e = ap length f in omega (arith, here.long) in
             none z (inner v z c).1 (nearer z c (one_nearer here c u long))
+
+    pub goes_on : (next : Option ℕ) → Smallest (λ w. ch v w × (known dist w ≡ Some k)) n next → IsSome next
+    goes_on (Some w) s = refl
+    goes_on None s = absurd (none_is_wrong s)
 
     pub walk_link : {w : ℕ} → Smallest (λ w. ch v w × (known dist w ≡ Some k)) n (Some w) → (l : List ℕ) → Best ch w y l → Best ch v y (v ∷ l)
     unfolding Nearer

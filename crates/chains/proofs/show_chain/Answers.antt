@@ -13,14 +13,13 @@ use Rattle.chains.proofs.show_chain.Goals.{In-loop-d}
 away : (c : In-loop-d) → known c.distances_to-dist.result c.loop-d.at ≡ Some (suc (c.loop-d.d - 1))
 away c = c.loop-d.invariant.1 ∙ ap Some (omega arith)
 
-pub returns-in_err-at : goal.returns-in_err-at
-returns-in_err-at c =
-    absurd
-    (goes_on (bytes_inside _ _) c.distances_to-dist.ensures c.loop-d.invariant.0 (away (goal.at.returns-in_err-at c).In-loop-d) c.in_err-at.ensures)
+pub unwrap-at-requires : goal.unwrap-at-requires
+unwrap-at-requires c =
+    goes_on (bytes_inside _ _) c.distances_to-dist.ensures c.loop-d.invariant.0 (away (goal.at.unwrap-at-requires c).In-loop-d) _ c.next_at.ensures
 
 pub loop-d-preserved : goal.loop-d-preserved
 loop-d-preserved c =
-    let s = c.in_ok-at.ensures in
+    let s = rw c.unwrap-at.ensures at c.next_at.ensures in
     let few = few_channels (bytes_inside _ _) c.distances_to-dist.ensures c.args.x (omega arith) c.in_ok-distance.was in
     let place : c.in_ok-distance.distance - (c.loop-d.d - 1) ≡ c.in_ok-distance.distance + 1 - c.loop-d.d = omega arith in
     let written : c.in_ok-distance.distance + 1 - (c.loop-d.d - 1) ≡ c.in_ok-distance.distance + 1 - c.loop-d.d + 1 = omega arith in (
