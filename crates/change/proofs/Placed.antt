@@ -1,17 +1,15 @@
--- The ends of both calls: the byte to be set lies in its table, and each return is an outcome of the call.
-use mathlib.Core.Path.{◌≡◌, refl}
-use mathlib.Core.Logic.{◌≢◌}
-use mathlib.Core.List.{List}
+-- The byte to be set lies in its table.
+use mathlib.Core.Path.{◌≡◌}
 use Prim.Native.Nat.{ℕ, ◌+◌, ◌*◌, ◌≤◌, ◌<◌}
 use borrow.Author.Tests.{leb-false}
-use lib.ListN.{length, set}
+use lib.ListN.{length}
 use Rattle.answers.specs.Call.{first_refusal}
 use Rattle.tables.specs.Sheet.{Lent}
 use Rattle.tables.specs.Refusals.{no_other, no_list, sheet_refusals}
-use Rattle.answers.proofs.Calls.{passed, passed_then, refuse, accept}
+use Rattle.answers.proofs.Calls.{passed, passed_then}
 use Rattle.tables.proofs.Accepted.{sheet_numbered, tables_passed}
 use Rattle.answers.proofs.Products.{place_below, product_within}
-use Rattle.change.specs.Change.{range_refusals, set_assignment_refusals, set_permission_refusals, SetsAssignment, SetsPermission, assignment_place, permission_place, change_refusals}
+use Rattle.change.specs.Change.{range_refusals, assignment_place, permission_place, change_refusals}
 
 -- a byte that passed 6 lies in a column of the table
 pub column_below : (rows columns most i j value : ℕ) → first_refusal (range_refusals rows columns most i j value) ≡ 0 → j < columns
@@ -44,25 +42,3 @@ module _ (l : Lent) (i j value : ℕ) where
       let p = passed_then (sheet_refusals no_other no_list l) _ (sheet_numbered no_other no_list l) e in
       let sized = (tables_passed no_other no_list l p.0).sized in
       in_table _ _ 3 i j value 48 64 _ sized.counts_fit.roles sized.counts_fit.objects sized.permission p.1
-
--- ---- both calls, return by return: their lists are those of the function that answers for them
-module _ (l : Lent) (i j value : ℕ) where
-  pub assignment_refused : (n : ℕ) → n ≡ first_refusal (change_refusals l l.counts.subjects l.counts.roles 1 i j value) → n ≢ 0 →
-      SetsAssignment l i j value (n, l.assignment)
-  unfolding set_assignment_refusals change_refusals
-  assignment_refused n e some = refuse n e some refl
-
-  pub assignment_set : first_refusal (change_refusals l l.counts.subjects l.counts.roles 1 i j value) ≡ 0 → (after : List ℕ) →
-      after ≡ set l.assignment (assignment_place l.counts i j) value → SetsAssignment l i j value (0, after)
-  unfolding set_assignment_refusals change_refusals
-  assignment_set none after e = accept none (rw e)
-
-  pub permission_refused : (n : ℕ) → n ≡ first_refusal (change_refusals l l.counts.roles l.counts.objects 3 i j value) → n ≢ 0 →
-      SetsPermission l i j value (n, l.permission)
-  unfolding set_permission_refusals change_refusals
-  permission_refused n e some = refuse n e some refl
-
-  pub permission_set : first_refusal (change_refusals l l.counts.roles l.counts.objects 3 i j value) ≡ 0 → (after : List ℕ) →
-      after ≡ set l.permission (permission_place l.counts i j) value → SetsPermission l i j value (0, after)
-  unfolding set_permission_refusals change_refusals
-  permission_set none after e = accept none (rw e)

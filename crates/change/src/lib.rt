@@ -3,52 +3,50 @@
 
 ghost use Rattle.std.specs.Prelude.{◌≡◌, ◌+◌, ◌*◌, ◌<◌, length, set};
 ghost use Rattle.answers.specs.Call.{first_refusal};
-ghost use Rattle.tables.specs.Sheet.{lent};
+ghost use Rattle.answers.specs.Refused.{code};
+ghost use Rattle.tables.specs.Sheet.{lent, lent_by};
 ghost use Rattle.change.specs.Change.{range_refusals, SetsAssignment, SetsPermission, change_refusals};
 
-use tables::Counts;
+use answers::refused::{Refused, first_refused};
+use tables::{Counts, Tables};
 
-// 6 of a byte to be set in row `i` at place `j` of a table, 0 for none.
-fn range_refusal(rows: usize, columns: usize, most: u8, i: usize, j: usize, value: u8) -> u8
-    ensures { result ≡ first_refusal (range_refusals rows columns most i j value) }
-{
-    let valued = answers::refuse(value > most, 6, 0);
-    let placed = answers::refuse(columns <= j, 6, valued);
-    answers::refuse(rows <= i, 6, placed)
-}
-
-// 1, 5, 11 or 6 of a change of that byte, 0 for none.
-fn change_refusal(
-    counts: Counts,
-    assignment: &[u8],
-    permission: &[u8],
+// A place in a table of `rows` rows of `columns` bytes, each at most `most`.
+#[derive(Clone, Copy)]
+struct Cell {
     rows: usize,
     columns: usize,
     most: u8,
-    i: usize,
-    j: usize,
-    value: u8,
-) -> u8
-    ensures { result ≡ first_refusal (change_refusals (lent counts assignment.now permission.now) rows columns most i j value) }
-{
-    let shared = refusals::sheet_refusal(
-        refusals::NO_OTHER,
-        refusals::NO_LIST,
-        counts,
-        assignment,
-        permission,
-    );
-    let outside = range_refusal(rows, columns, most, i, j, value);
-    answers::first_of(shared, outside)
+    row: usize,
+    column: usize,
 }
 
-// Sets the byte in row `i` at place `j` of a table whose rows have `n` bytes.
-fn put(bytes: &mut [u8], n: usize, i: usize, j: usize, value: u8)
-    requires { i * n + j < length bytes.old }
-    ensures { bytes.new ≡ set bytes.old (i * n + j) value }
+impl Cell {
+    // 6 of a byte to be set there.
+    fn check(self, value: u8) -> Result<(), Refused>
+        ensures { code result ≡ first_refusal (range_refusals self.rows self.columns self.most self.row self.column value) }
+    {
+        first_refused(&[
+            (self.rows <= self.row, Refused::OutOfRange),
+            (self.columns <= self.column, Refused::OutOfRange),
+            (value > self.most, Refused::OutOfRange),
+        ])
+    }
+
+    // Sets the byte there.
+    fn set(self, table: &mut [u8], value: u8)
+        requires { self.row * self.columns + self.column < length table.old }
+        ensures { table.new ≡ set table.old (self.row * self.columns + self.column) value }
+    {
+        table[self.row * self.columns + self.column] = value;
+    }
+}
+
+// 1, 5, 11 or 6 of a change of a byte.
+fn check_change(sheet: Tables, cell: Cell, value: u8) -> Result<(), Refused>
+    ensures { code result ≡ first_refusal (change_refusals (lent_by sheet.entry) cell.rows cell.columns cell.most cell.row cell.column value) }
 {
-    let place = i * n + j;
-    bytes[place] = value;
+    refusals::check_sheet(refusals::NO_OTHER, refusals::NO_LIST, sheet)?;
+    cell.check(value)
 }
 
 // Sets whether subject `s` has role `r`. Refuses with 1, 5, 11 and 6, in this order, and then changes nothing.
@@ -59,25 +57,24 @@ pub fn set_assignment(
     s: usize,
     r: usize,
     value: u8,
-) -> u8
-    ensures { SetsAssignment (lent counts assignment.old permission.now) s r value (result, assignment.new) }
+) -> Result<(), Refused>
+    ensures { SetsAssignment (lent counts assignment.old permission.now) s r value (code result, assignment.new) }
 {
-    let refusal = change_refusal(
+    let sheet = Tables {
         counts,
-        assignment,
+        assignment: &*assignment,
         permission,
-        counts.subjects,
-        counts.roles,
-        1,
-        s,
-        r,
-        value,
-    );
-    if refusal != 0 {
-        return refusal;
-    }
-    put(assignment, counts.roles, s, r, value);
-    0
+    };
+    let cell = Cell {
+        rows: counts.subjects,
+        columns: counts.roles,
+        most: 1,
+        row: s,
+        column: r,
+    };
+    check_change(sheet, cell, value)?;
+    cell.set(assignment, value);
+    Ok(())
 }
 
 // Sets the mode that role `r` has on object `o`; 0 takes it away. Refuses as `set_assignment` does.
@@ -88,23 +85,22 @@ pub fn set_permission(
     r: usize,
     o: usize,
     mode: u8,
-) -> u8
-    ensures { SetsPermission (lent counts assignment.now permission.old) r o mode (result, permission.new) }
+) -> Result<(), Refused>
+    ensures { SetsPermission (lent counts assignment.now permission.old) r o mode (code result, permission.new) }
 {
-    let refusal = change_refusal(
+    let sheet = Tables {
         counts,
         assignment,
-        permission,
-        counts.roles,
-        counts.objects,
-        3,
-        r,
-        o,
-        mode,
-    );
-    if refusal != 0 {
-        return refusal;
-    }
-    put(permission, counts.objects, r, o, mode);
-    0
+        permission: &*permission,
+    };
+    let cell = Cell {
+        rows: counts.roles,
+        columns: counts.objects,
+        most: 3,
+        row: r,
+        column: o,
+    };
+    check_change(sheet, cell, mode)?;
+    cell.set(permission, mode);
+    Ok(())
 }

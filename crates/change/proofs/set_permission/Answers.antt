@@ -1,15 +1,17 @@
 -- `change::set_permission` meets its contract: what is refused, and what is set.
-use mathlib.Core.Path.{sym, ◌∙◌}
-use Rattle.change.proofs.Placed.{permission_inside, permission_refused, permission_set}
+use mathlib.Core.Path.{sym}
+use Rattle.std.proofs.Common.{rules}
+use Rattle.change.specs.Change.{set_permission_refusals}
+use Rattle.change.proofs.Placed.{permission_inside}
 use Rattle.change.proofs.set_permission.Goals as goal
 
-pub returns-then-refusal-ne0 : goal.returns-then-refusal-ne0
-returns-then-refusal-ne0 c = permission_refused _ _ _ _ _ c.change_refusal-refusal.ensures c.if-refusal-ne0.true
+pub returns-in_err-check_change : goal.returns-in_err-check_change
+unfolding set_permission_refusals
+returns-in_err-check_change c = search rules
 
-pub put-requires : goal.put-requires
-put-requires c = permission_inside _ _ _ _ (sym c.change_refusal-refusal.ensures ∙ c.if-refusal-ne0.false)
+pub set-requires : goal.set-requires
+set-requires c = permission_inside _ _ _ _ (sym c.in_ok-check_change.ensures)
 
 pub returns : goal.returns
-returns c =
-    permission_set _ _ _ _ (sym c.change_refusal-refusal.ensures ∙ c.if-refusal-ne0.false) _
-    c.put.ensures
+unfolding set_permission_refusals
+returns c = search rules
