@@ -5,3 +5,4 @@ pub mod Agreeing
 pub mod Findings
 pub mod Determined
 pub mod Instances
+pub mod Told

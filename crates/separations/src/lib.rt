@@ -1,11 +1,47 @@
 // Broken separations and shown chains, over any relation of channels: definitions and laws. No code but what judging answers.
 #![tactic(auto)]
 
-// What judging answers: the number, and the position and the chain count of the first broken separation.
+ghost use Rattle.std.specs.Prelude.{◌≡◌};
+ghost use Rattle.separations.specs.Judgement.{judged_of};
+
+use answers::refused::Refused;
+
+// The first broken separation: its position, and how many entities its chain has.
+#[derive(Clone, Copy)]
+pub struct Finding {
+    pub position: usize,
+    pub count: usize,
+}
+
+// What C is told of a judgement: the number, and the position and the chain count of the first broken separation.
 #[repr(C)]
 #[derive(Clone, Copy)]
 pub struct Judged {
     pub answer: u8,
     pub position: usize,
     pub count: usize,
+}
+
+impl From<Result<Option<Finding>, Refused>> for Judged {
+    ghost from_gives = { λ answer judged. judged ≡ judged_of answer };
+
+    fn from(answer: Result<Option<Finding>, Refused>) -> Judged {
+        match answer {
+            Ok(Some(Finding { position, count })) => Judged {
+                answer: 14,
+                position,
+                count,
+            },
+            Ok(None) => Judged {
+                answer: 0,
+                position: 0,
+                count: 0,
+            },
+            Err(why) => Judged {
+                answer: why as u8,
+                position: 0,
+                count: 0,
+            },
+        }
+    }
 }

@@ -7,13 +7,11 @@ use Rattle.rows.proofs.spread.Goals.{else-is_channel, then-is_channel}
 
 pub loop-k-preserved : goal.loop-k-preserved
 loop-k-preserved c =
-    let s = c.loop-k.invariant.1 in
+    let s = c.loop-k.invariant in
     elim c.if-is_channel.branch [
-      | then-is_channel w ↦ (
-        omega arith,
-        rw (w.order-is, w.end-is)
-            (spread_take s (omega arith) (record { source = omega arith; target = s.arranged.entity _ (omega arith); byte = eqb-true _ _ (cc) })
-            w.swap.auto.self w.swap.ensures.by_index),
-      )
-      | else-is_channel w ↦ (omega arith, rw (w.order-is, w.end-is) (spread_pass s (λ d. eqb-false _ _ (cc) d.byte)))
+      | then-is_channel w ↦
+          rw (w.order-is, w.end-is)
+          (spread_take s (omega arith) (record { source = omega arith; target = s.arranged.entity _ (omega arith); byte = eqb-true _ _ (cc) })
+          w.swap.auto.self w.swap.ensures.by_index)
+      | else-is_channel w ↦ rw (w.order-is, w.end-is) (spread_pass s (λ d. eqb-false _ _ (cc) d.byte))
     ]
