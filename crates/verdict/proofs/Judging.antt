@@ -1,7 +1,6 @@
--- The ends of `judge`, return by return.
+-- What is known where `judge` refuses nothing, and what it judges then.
 use Prim.Native.Nat.{ℕ, ◌≤◌}
-use mathlib.Core.Path.{◌≡◌, refl}
-use mathlib.Core.Logic.{◌≢◌}
+use mathlib.Core.Path.{◌≡◌}
 use mathlib.Core.Bool.{◌||◌}
 use mathlib.Core.List.{List}
 use borrow.Author.Tests.{ltb-false}
@@ -11,13 +10,13 @@ use Rattle.answers.specs.Rows.{Bytes, Filled, shorter}
 use Rattle.answers.specs.Sizes.{least_chain, least_separations}
 use Rattle.tables.specs.Sheet.{Lent, sheet_in, sheet_of, entities}
 use Rattle.tables.specs.Refusals.{no_list, sheet_refusals, separation_refusals}
-use Rattle.answers.proofs.Calls.{first_refuses, second_decides, passed_then, refuse, accept}
+use Rattle.answers.proofs.Calls.{passed_then}
 use Rattle.tables.proofs.Accepted.{sheet_numbered, tables_passed, separations_passed}
 use Rattle.answers.proofs.Joined.{neither}
 use Rattle.access.specs.Channel.{Channel}
 use Rattle.separations.specs.declared.Judged.{Judged}
-use Rattle.separations.specs.Judgement.{judged, Judgement}
-use Rattle.verdict.specs.Judge.{judge_refusals, Judges}
+use Rattle.separations.specs.Judgement.{Judgement}
+use Rattle.verdict.specs.Judge.{judge_refusals}
 use Rattle.verdict.specs.Inner.{Judgeable}
 use Rattle.verdict.proofs.Showing.{sheet_has, table_has}
 use Rattle.separations.proofs.Agreeing.{judgement_agrees}
@@ -31,14 +30,6 @@ module _ (l : Lent) (count : ℕ) (separations chain : List ℕ) where
   -- 8, 6 and 7
   abbrev pub pairs : List Refusal
   pairs = separation_refusals (entities l.counts) count separations
-
-  pub by_tables : (n : ℕ) → n ≡ first_refusal tables → n ≢ 0 → n ≡ first_refusal (judge_refusals l count separations chain)
-  unfolding judge_refusals
-  by_tables n e some = first_refuses tables pairs n e some
-
-  pub by_pairs : (k n : ℕ) → k ≡ first_refusal tables → k ≡ 0 → n ≡ first_refusal pairs → n ≡ first_refusal (judge_refusals l count separations chain)
-  unfolding judge_refusals
-  by_pairs k n e none f = second_decides tables pairs k n (sheet_numbered _ _ l) e none f
 
   -- what is known where 1 has passed
   pub both_long : first_refusal tables ≡ 0 → (least_separations ≤ length separations) × (least_chain ≤ length chain)
@@ -64,13 +55,3 @@ pub of_sheet : (l : Lent) (count : ℕ) (separations scratch channels before : L
 unfolding sheet_of
 of_sheet l count separations scratch channels before result f v =
     judgement_agrees (sheet_has l scratch channels f) (table_has l scratch channels f) v
-
--- ---- the call
-module _ (l : Lent) (count : ℕ) (separations before : List ℕ) where
-  pub judge_refused : (n : ℕ) → n ≡ first_refusal (judge_refusals l count separations before) → n ≢ 0 →
-      Judges l count separations before (judged n 0 0, before)
-  judge_refused n e some = refuse n e some refl
-
-  pub judge_done : (result : Judged × List ℕ) → first_refusal (judge_refusals l count separations before) ≡ 0 →
-      Judgement (Channel (sheet_of l count separations)) count separations before result → Judges l count separations before result
-  judge_done result e v = accept e v
