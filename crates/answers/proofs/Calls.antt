@@ -67,14 +67,6 @@ first_refuses l m k e some = e ∙ sym (by_first l m (λ none. some (e ∙ none)
 pub second_decides : (l m : List Refusal) (k n : ℕ) → T (numbered l) → k ≡ first_refusal l → k ≡ 0 → n ≡ first_refusal m → n ≡ first_refusal (l then m)
 second_decides l m k n t e none f = f ∙ sym (by_second l m t (sym e ∙ none))
 
--- both at once, as `first_of` has it
-pub by_both : (l m : List Refusal) → T (numbered l) → first_refusal (l then m) ≡ cond (eqb (first_refusal l) 0) (first_refusal m) (first_refusal l)
-by_both l m t = go (ℕ_discrete (first_refusal l) 0)
-  where
-    go : Dec (first_refusal l ≡ 0) → first_refusal (l then m) ≡ cond (eqb (first_refusal l) 0) (first_refusal m) (first_refusal l)
-    go (yes none) = rw (eq-eqb (first_refusal l) 0 none) (by_second l m t none)
-    go (no some) = rw (ne_eqb (first_refusal l) 0 some) (by_first l m some)
-
 -- two lists pass exactly if both do
 pub passed_then : (l m : List Refusal) → T (numbered l) → first_refusal (l then m) ≡ 0 → (first_refusal l ≡ 0) × (first_refusal m ≡ 0)
 passed_then l m t e = go (first_refusal l) refl

@@ -1,4 +1,4 @@
--- What tests that are joined by `either` tell.
+-- What tests that are joined by `||` tell.
 use mathlib.Core.Path.{◌≡◌, refl}
 use mathlib.Core.Bool.{Bool, true, false, ◌||◌, true≢false}
 

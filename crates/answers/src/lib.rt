@@ -4,7 +4,7 @@
 pub mod refused;
 pub mod sizes;
 
-ghost use Rattle.std.specs.Prelude.{◌≡◌, ◌||◌, cond, ◌<◌, ◌≤◌, ◌*◌, eqb, length};
+ghost use Rattle.std.specs.Prelude.{◌≡◌, ◌<◌, ◌≤◌, ◌*◌, eqb, length};
 ghost use Rattle.answers.specs.Refused.{told_of};
 ghost use Rattle.answers.specs.Rows.{some_above, at};
 ghost use Rattle.answers.specs.Sizes.{most_entities};
@@ -31,45 +31,6 @@ impl From<Result<usize, Refused>> for Told {
             },
         }
     }
-}
-
-// ---- refusals, as a rule lists them
-
-// One refusal in front of others: its number if its test holds, else what they come to. A nest of it reads as the rule's list.
-pub fn refuse(test: bool, number: u8, others: u8) -> u8
-    ensures { result ≡ cond test number others }
-{
-    if test {
-        return number;
-    }
-    others
-}
-
-// One list of refusals in front of another: what the first comes to, if it refuses, else what the second comes to.
-pub fn first_of(first: u8, second: u8) -> u8
-    ensures { result ≡ cond (eqb first 0) second first }
-{
-    if first == 0 {
-        return second;
-    }
-    first
-}
-
-// Whether one of two tests holds. A call joins the tests of its other buffers by this: of `a || b` in a `let` only a case by case
-// account is known.
-pub fn either(a: bool, b: bool) -> bool
-    ensures { result ≡ (a || b) }
-{
-    a || b
-}
-
-// ---- bytes
-
-// A byte as a wider number.
-pub fn wide(x: u8) -> usize
-    ensures { (result ≡ x) × (result < 256) }
-{
-    x as usize
 }
 
 // Whether one of the first `used` bytes is above `most`. It does not stop at the first, so that many bytes are judged at once.
