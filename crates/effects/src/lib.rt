@@ -88,8 +88,8 @@ impl<'a> Change<'a> {
         requires { least_effect ≤ length effect.old }
         ensures { Affected self.entry.after.n self.entry.before.bytes.now self.entry.after.bytes.now effect.old (0, effect.new) }
     {
-        for x in 0..self.after.n {
-            effect[x] = self.effect_on(x);
+        for (x, byte) in effect[..self.after.n].iter_mut().enumerate() {
+            *byte = self.effect_on(x);
         }
     }
 }

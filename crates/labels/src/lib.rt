@@ -16,10 +16,9 @@ pub fn fill_label(table: Square, x: usize, label: &mut [u8]) -> usize
     ensures { Labelled table.entry.n table.entry.bytes.now x label.old (told 0 result, label.new) }
 {
     let mut size = 0;
-    for y in 0..table.n {
-        let byte = table.byte(y, x);
-        label[y] = byte;
-        size += byte as usize;
+    for (y, byte) in label[..table.n].iter_mut().enumerate() {
+        *byte = table.byte(y, x);
+        size += *byte as usize;
     }
     size
 }

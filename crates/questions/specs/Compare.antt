@@ -23,14 +23,14 @@ compared o = record { number = 0; order = some o }
 abbrev pub not_compared : ℕ → Comparison
 not_compared n = record { number = n; order = none }
 
--- "for each of its cases"
+-- "equal (equivalent), below .., above .. or incomparable"
 abbrev pub order_of : Compared → Order
 order_of Equal = equal
 order_of Below = below
 order_of Above = above
 order_of Incomparable = incomparable
 
--- and a refusal
+-- "for each of its cases"
 unfoldable pub comparison : Result Compared Why → Comparison
 comparison (Ok c) = compared (order_of c)
 comparison (Err why) = not_compared (number why)

@@ -3,4 +3,4 @@ use Rattle.labels.proofs.Labelling.{LabelTo}
 use Rattle.labels.proofs.fill_label.Given as goal
 
 abbrev pub invariant-loop-y : goal.invariant-loop-y
-invariant-loop-y l = LabelTo l.table.n l.table.bytes.now l.x l.y l.initial.label l.size l.label
+invariant-loop-y l = LabelTo l.table.n l.table.bytes.now l.x l.y l.size l.byte-items

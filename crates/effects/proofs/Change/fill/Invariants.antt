@@ -1,10 +1,10 @@
 -- `Change::fill` meets its contract: the bytes passed are the effects.
 use Rattle.answers.specs.Rows.{Bytes}
-use Rattle.answers.proofs.Written.{Written}
+use Rattle.answers.proofs.FilledBytes.{FilledBytes}
 use Rattle.theory.specs.Effect.{Effect}
 use Rattle.effects.proofs.Change.fill.Given as goal
 
 abbrev pub invariant-loop-x : goal.invariant-loop-x
 invariant-loop-x l =
     let n = l.self.after.n in
-    Written l.x (Effect n (Bytes n l.self.before.bytes.now) (Bytes n l.self.after.bytes.now)) l.initial.effect l.effect
+    FilledBytes (Effect n (Bytes n l.self.before.bytes.now) (Bytes n l.self.after.bytes.now)) l.x l.byte-items
