@@ -125,15 +125,18 @@ more_lines k (Ok (Separate v u)) = omega arith
 more_lines k (Ok (End v l)) = omega arith
 
 -- ---- a text that passes is one of frames
-always_refused : (why : Why) (t : Bool) → first_refusal ((9 if t) ∷ (number why if true) ∷ []) ≡ 0 → ⊥
-unfolding first_refusal
-always_refused why true e = omega arith
-always_refused why false e = some_number why e
+pub err_refused : (k : Passed) (why : Why) → first_refusal (line_refusals k (Err why)) ≡ 0 → ⊥
+unfolding first_refusal line_refusals parsed_refusals
+err_refused k why = go k.ended
+  where
+    go : (t : Bool) → first_refusal ((9 if t) ∷ (number why if true) ∷ []) ≡ 0 → ⊥
+    go true e = omega arith
+    go false e = some_number why e
 
 pub all_frames : (k : Passed) (ps : List Parsed) → check k ps ≡ Accepted → ps ≡ map Ok (frames_of ps)
 unfolding frames_of next_line line_refusals parsed_refusals
 all_frames k [] h = refl
-all_frames k (Err why ∷ ps) h = absurd (always_refused why k.ended (line_passed k (Err why) ps h).0)
+all_frames k (Err why ∷ ps) h = absurd (err_refused k why (line_passed k (Err why) ps h).0)
 all_frames k (Ok f ∷ ps) h = ap (λ (l : List Parsed). Ok f ∷ l) (all_frames (next k f) ps (frame_passed k f ps h).1)
 
 pub frames_again : (fs : List Frame) → frames_of (map Ok fs) ≡ fs
