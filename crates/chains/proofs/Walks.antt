@@ -1,6 +1,6 @@
 -- The walk that writes a chain by the distances to y.
 use Prim.Native.Nat.{ℕ, suc, ◌+◌, ◌≤◌, ◌<◌}
-use mathlib.Core.Path.{◌≡◌, refl, sym, ap, ◌∙◌}
+use mathlib.Core.Path.{◌≡◌, sym, ap, ◌∙◌}
 use mathlib.Core.List.{List, [], ◌∷◌, ◌++◌, append_assoc}
 use native.Mathlib.Numerals.{add-one}
 use native.Mathlib.Decide.{dec_le}
@@ -78,9 +78,6 @@ write_next p before i a e h =
     ∙ set_at p (get_or before i 0) (drop (suc i) before) a i e
     ∙ ap (λ (k : ℕ). p ++ (a ∷ drop k before)) (sym (add-one i))
     ∙ sym (append_assoc p (a ∷ []) (drop (i + 1) before))
-
-pub walking_first : (ch : ℕ → ℕ → Type 0) (x y : ℕ) (before : List ℕ) → 0 < length before → Walking ch x y before (set before 0 x) x 1
-walking_first ch x y before h = record { passed = []; long = refl; written = write_next [] before 0 x refl h; onward = λ s b. b }
 
 module _ {ch : ℕ → ℕ → Type 0} {x y at i : ℕ} {before chain : List ℕ} (w : Walking ch x y before chain at i) where
   further : List ℕ

@@ -1,7 +1,6 @@
 -- Laws for the proofs of functions, and of relations with the same pairs.
 pub mod Spreads
 pub mod Searches
-pub mod Marks
 pub mod Relations
 pub mod Determined
 pub mod Example

@@ -1,7 +1,7 @@
--- Laws of the list of all entities: how it begins, two entities that change places, and `Spread` with none looked at, past one that u
--- has no channel to, and past one that it has.
+-- Laws of the list of all entities: two entities that change places, how it begins, and `Spread` past one that u has no channel to and
+-- past one that it has.
 use Prim.Native.Nat.{ℕ, ◌+◌, ◌≤◌, ◌<◌}
-use mathlib.Core.Path.{◌≡◌, refl, sym, ap, ◌∙◌}
+use mathlib.Core.Path.{◌≡◌, sym, ap, ◌∙◌}
 use mathlib.Core.List.{List}
 use native.Mathlib.Decide.{ℕ_discrete}
 use native.Mathlib.Omega.{arith}
@@ -43,17 +43,6 @@ begun_first {x = x} order order' inside room own long s =
 
 -- ---- `Spread`
 module _ {ch : ℕ → ℕ → Type 0} {n u tail : ℕ} {order : List ℕ} where
-  pub spread_none : Arranged n order → Spread ch n u tail order order tail tail
-  spread_none a =
-      record {
-        arranged = a;
-        older = λ k l. refl;
-        newer = λ k l m. absurd (omega arith);
-        left = λ k l m. absurd (omega arith);
-        grows = omega arith;
-        ends = omega arith;
-      }
-
   module _ {order' : List ℕ} {end k : ℕ} (s : Spread ch n u k order order' tail end) where
     pub spread_pass : (ch u (get_or order' k 0) → ⊥) → Spread ch n u (k + 1) order order' tail end
     spread_pass no' =
