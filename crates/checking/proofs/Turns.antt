@@ -6,15 +6,21 @@ use mathlib.Core.Bool.{true, false}
 use mathlib.Core.List.{List, []}
 use native.Mathlib.Omega.{arith}
 use lib.ListN.{length, drop, drop_of_length-le}
+use Rattle.std.specs.Prelude.{Result, Ok, Err}
+use Rattle.std.specs.Result.{IsErrAnd}
+use Rattle.std.proofs.lemmas.Result.{err_from_is_err_and}
+use Rattle.answers.specs.declared.refused.Refused.TheVariants.{NoEnd}
 use Rattle.answers.specs.Call.{first_refusal}
+use Rattle.answers.specs.Refused.{number}
+use Rattle.answers.proofs.Exits.{some_number}
 use Rattle.digits.specs.Line.{lines}
 use Rattle.frames.specs.declared.Frame.TheVariants.{Header, Assign, Permit, Separate, End}
-use Rattle.frames.specs.declared.Parsed.{Parsed}
-use Rattle.frames.specs.declared.Parsed.TheVariants.{NoBytes, NoFrame, Good}
+use Rattle.frames.specs.declared.Frame.{Frame}
 use Rattle.frames.specs.declared.Passed.{Passed}
-use Rattle.frames.specs.declared.CheckedText.TheVariants.{Refused, Accepted}
-use Rattle.frames.specs.Check.{start, next, next_line, line_refusals, check, parsed_lines}
-use Rattle.frames.proofs.Checks.{check_go, check_stop, not_refused, more_lines}
+use Rattle.frames.specs.declared.RefusedText.{RefusedText}
+use Rattle.frames.specs.Frame.{Parsed}
+use Rattle.frames.specs.Check.{start, next, next_line, line_refusals, Refused, check, parsed_lines}
+use Rattle.frames.proofs.Checks.{check_go, check_stop, more_lines}
 use Rattle.parsing.specs.declared.Found.{Found}
 use Rattle.parsing.specs.Inner.{FoundAt}
 use Rattle.checking.specs.Inner.{after_lines, Checks}
@@ -35,23 +41,28 @@ checking_start t k e =
 
 fewer_separations : (k : Passed) (x : Parsed) → k.separations ≤ k.lines → (next_line k x).separations ≤ (next_line k x).lines
 unfolding next_line next
-fewer_separations k NoBytes h = omega arith
-fewer_separations k NoFrame h = omega arith
-fewer_separations k (Good (Header s o r)) h = omega arith
-fewer_separations k (Good (Assign s r)) h = omega arith
-fewer_separations k (Good (Permit r o m)) h = omega arith
-fewer_separations k (Good (Separate v u)) h = omega arith
-fewer_separations k (Good (End v l)) h = omega arith
+fewer_separations k (Err why) h = omega arith
+fewer_separations k (Ok (Header s o r)) h = omega arith
+fewer_separations k (Ok (Assign s r)) h = omega arith
+fewer_separations k (Ok (Permit r o m)) h = omega arith
+fewer_separations k (Ok (Separate v u)) h = omega arith
+fewer_separations k (Ok (End v l)) h = omega arith
+
+-- what the exit of a `?` answers
+pub refused_with : {T : Type 0} (r : RefusedText) (x : Result T RefusedText) → IsErrAnd x (λ y. y ≡ r) → x ≡ Err r
+refused_with r x e = let p = err_from_is_err_and x e in p.1 ∙ ap Err p.2
 
 module _ (t : List ℕ) (k : Passed) (p : ℕ) (s : Checking t k p) where
   module _ (found : Found) (here : FoundAt t p found) where
     -- the line passes
-    pub checking_next : (m : Passed) → m ≡ next_line k found.parsed → first_refusal (line_refusals k found.parsed) ≡ 0 → Checking t m found.next
-    unfolding after_lines
-    checking_next m e fine =
+    pub checking_next : (f : Frame) (m : Passed) → found.parsed ≡ Ok f → first_refusal (line_refusals k found.parsed) ≡ 0 → m ≡ next k f →
+        Checking t m found.next
+    unfolding after_lines next_line
+    checking_next f m is fine e =
         let x : Parsed = found.parsed in
         let rest : List Parsed = parsed_lines (drop found.next t) in
-        subst (λ (y : Passed). Checking t y found.next) (sym e)
+        let same : m ≡ next_line k x = rw is e in
+        subst (λ (y : Passed). Checking t y found.next) (sym same)
         (record {
           verdict = sym (check_go k x rest fine) ∙ ap (check k) (sym here.first) ∙ s.verdict;
           passed = ap (after_lines k) (sym here.first) ∙ s.passed;
@@ -60,15 +71,17 @@ module _ (t : List ℕ) (k : Passed) (p : ℕ) (s : Checking t k p) where
           near = here.near;
         })
 
-    -- it is refused by n
-    pub stops : (n : ℕ) → n ≡ first_refusal (line_refusals k found.parsed) → (n ≡ 0 → ⊥) →
-        Checks t (record { verdict = Refused n (k.lines + 1); passed = k })
-    stops zero e some = absurd (some refl)
-    stops (suc n) e some =
-        record {
-          verdict = sym (check_stop k found.parsed (parsed_lines (drop found.next t)) n (sym e)) ∙ ap (check k) (sym here.first) ∙ s.verdict;
-          passed = λ h. absurd (not_refused h);
-        }
+    -- it is refused
+    refused_at : (n : ℕ) → n ≡ first_refusal (line_refusals k found.parsed) → (n ≡ 0 → ⊥) → Refused n (k.lines + 1) ≡ check start (parsed_lines t)
+    refused_at zero e some = absurd (some refl)
+    refused_at (suc n) e some =
+        sym (check_stop k found.parsed (parsed_lines (drop found.next t)) n (sym e)) ∙ ap (check k) (sym here.first) ∙ s.verdict
+
+    pub stops : (r : RefusedText) (x : Result Passed RefusedText) → IsErrAnd x (λ y. y ≡ r) → number r.why ≡ first_refusal (line_refusals k found.parsed) →
+        r.line ≡ k.lines + 1 → Checks t x
+    stops r x e n l =
+        subst (λ (y : Result Passed RefusedText). Checks t y) (sym (refused_with r x e))
+        (record { verdict = ap (Refused (number r.why)) l ∙ refused_at (number r.why) n (some_number r.why); passed = λ m h. absurd (cc) })
 
   -- no line is left
   module _ (done : length t ≤ p) where
@@ -76,10 +89,10 @@ module _ (t : List ℕ) (k : Passed) (p : ℕ) (s : Checking t k p) where
     unfolding parsed_lines lines
     none_left = ap parsed_lines (drop_of_length-le t {i = p} done)
 
-    pub ends_well : k.ended ≡ true → Checks t (record { verdict = Accepted; passed = k })
+    pub ends_well : k.ended ≡ true → Checks t (Ok k)
     unfolding check after_lines
-    ends_well e = record { verdict = rw (none_left, e) at s.verdict; passed = λ _. rw none_left at s.passed }
+    ends_well e = record { verdict = rw (none_left, e) at s.verdict; passed = λ m h. let same : m ≡ k = cc in same ∙ rw none_left at s.passed }
 
-    pub ends_short : k.ended ≡ false → Checks t (record { verdict = Refused 9 (k.lines + 1); passed = k })
+    pub ends_short : k.ended ≡ false → Checks t (Err (record { why = NoEnd; line = k.lines + 1 }))
     unfolding check
-    ends_short e = record { verdict = rw (none_left, e) at s.verdict; passed = λ h. absurd (not_refused h) }
+    ends_short e = record { verdict = rw (none_left, e) at s.verdict; passed = λ m h. absurd (cc) }

@@ -1,101 +1,62 @@
 // The check of a whole text.
 #![tactic(auto)]
 
-ghost use Rattle.std.specs.Prelude.{◌≡◌, true, ◌+◌, ◌<◌};
-ghost use Rattle.tables.specs.Sheet.{counts};
-ghost use Rattle.frames.specs.Check.{start, next as after, next_line};
+ghost use Rattle.std.specs.Prelude.{◌≡◌, ◌+◌, Ok, MatchResult};
+ghost use Rattle.answers.specs.Call.{first_refusal};
+ghost use Rattle.answers.specs.Refused.{number};
+ghost use Rattle.frames.specs.Check.{next as after, line_refusals};
 ghost use Rattle.checking.specs.Inner.{Countable, Checks};
 
-use frames::{CheckedText, Frame, Parsed, Passed};
-use tables::Counts;
-
-// What a whole text comes to, and what is known of the lines that passed.
-#[derive(Clone, Copy)]
-pub struct Checked {
-    pub verdict: CheckedText,
-    pub passed: Passed,
-}
-
-// Before the first line.
-pub fn start_state() -> Passed
-    ensures { result ≡ start }
-{
-    Passed {
-        lines: 0,
-        ended: false,
-        counts: Counts {
-            subjects: 0,
-            objects: 0,
-            roles: 0,
-        },
-        last: 0,
-        separations: 0,
-    }
-}
+use answers::refused::Refused;
+use frames::{Frame, Passed, RefusedText};
 
 // After one more line.
+#[tactic(auto, unfolding(frames::specs::Check::next))]
 pub fn state_after(k: Passed, f: Frame) -> Passed
     requires { Countable k }
     ensures { result ≡ after k f }
 {
     let mut n = k;
-    n.lines = k.lines + 1;
+    n.lines += 1;
     n.last = faults::key_of(f);
     match f {
-        Frame::Header(s, o, r) => {
-            let counts = faults::header_counts(s, o, r);
-            n.counts = counts;
-        }
-        Frame::Assign(_, _) => {}
-        Frame::Permit(_, _, _) => {}
-        Frame::Separate(_, _) => {
-            n.separations = k.separations + 1;
-        }
-        Frame::End(_, _) => {
-            n.ended = true;
-        }
+        Frame::Header(s, o, r) => n.counts = faults::header_counts(s, o, r),
+        Frame::Separate(..) => n.separations += 1,
+        Frame::End(..) => n.ended = true,
+        _ => {}
     }
     n
 }
 
-fn state_after_line(k: Passed, p: Parsed) -> Passed
+// The frame of the next line, or the refusal of the text at it.
+fn next_frame(k: Passed, line: Result<Frame, Refused>) -> Result<Frame, RefusedText>
     requires { Countable k }
-    ensures { result ≡ next_line k p }
+    ensures { MatchResult result (λ f. (line ≡ Ok f) × (first_refusal (line_refusals k line) ≡ 0)) (λ r. (number r.why ≡ first_refusal (line_refusals k line)) × (r.line ≡ k.lines + 1)) }
 {
-    match p {
-        Parsed::NoBytes => k,
-        Parsed::NoFrame => k,
-        Parsed::Good(f) => state_after(k, f),
-    }
+    faults::passing_frame(k, line).map_err(|why| RefusedText {
+        why,
+        line: k.lines + 1,
+    })
 }
 
-// The first pass over a text: it checks everything and changes nothing.
-pub fn check_text(text: &[u8]) -> Checked
+// The first pass over a text: it checks everything and changes nothing. What is known of the lines that passed, or the refusal.
+pub fn check_text(text: &[u8]) -> Result<Passed, RefusedText>
     ensures { Checks text.now result }
 {
-    let mut k = start_state();
+    let mut k = Passed::start();
     let mut p = 0;
     while p < text.len() {
         let found = parsing::parse_at(text, p);
-        let parsed = found.parsed;
-        let n = faults::line_fault(k, parsed);
-        if n != 0 {
-            return Checked {
-                verdict: CheckedText::Refused(n, k.lines + 1),
-                passed: k,
-            };
-        }
-        k = state_after_line(k, parsed);
+        let frame = next_frame(k, found.parsed)?;
+        k = state_after(k, frame);
         p = found.next;
     }
     if k.ended {
-        return Checked {
-            verdict: CheckedText::Accepted,
-            passed: k,
-        };
+        return Ok(k);
     }
-    Checked {
-        verdict: CheckedText::Refused(9, k.lines + 1),
-        passed: k,
-    }
+    let line = k.lines + 1;
+    Err(RefusedText {
+        why: Refused::NoEnd,
+        line,
+    })
 }

@@ -1,12 +1,14 @@
 -- Pairs of digits by their place in a line: for a loop over the pairs, and for the byte of a pair.
-use Prim.Native.Nat.{ℕ, zero, suc, ◌+◌, ◌*◌, ◌-◌, ◌≤◌, ◌<◌}
-use mathlib.Core.Path.{◌≡◌, ap, refl, sym, ◌∙◌}
-use mathlib.Core.Bool.{Bool, true, false, ◌&&◌, false≢true}
+use Prim.Native.Nat.{ℕ, zero, suc, ◌+◌, ◌*◌, ◌/◌, ◌%◌, ◌≤◌, ◌<◌}
+use mathlib.Core.Path.{◌≡◌, refl, sym, ◌∙◌}
+use mathlib.Core.Bool.{true, false, ◌&&◌, false≢true}
 use mathlib.Core.List.{List, [], ◌∷◌}
 use native.Mathlib.Numerals.{add-one, add-two}
 use native.Mathlib.Omega.{arith}
 use lib.ListN.{length, get_or, drop, drop_of_length-le}
 use lib.Seq.{drop-cons}
+use Rattle.std.specs.List.{list_all}
+use Rattle.std.proofs.Math.Bool.{and_assoc, and-false}
 use Rattle.digits.specs.Digit.{is_digit, digit_pairs, to_bytes}
 use Rattle.digits.specs.Inner.{DigitsAt, byte_at}
 use Rattle.digits.proofs.Digits.{both_true, pair}
@@ -16,32 +18,18 @@ pairs_at : (l : List ℕ) (i : ℕ) → suc i < length l → digit_pairs (drop i
 unfolding digit_pairs
 pairs_at l i h = rw (drop-cons l i 0 (omega arith), drop-cons l (suc i) 0 h, add-one, add-two)
 
-pairs_odd : (l : List ℕ) (i : ℕ) → suc i ≡ length l → digit_pairs (drop i l) ≡ false
+-- ---- a line as a loop passes it: an even count of bytes, and all of them digits
+pub pairs_even : (l : List ℕ) → length l % 2 ≡ 0 → digit_pairs l ≡ list_all is_digit l
 unfolding digit_pairs
-pairs_odd l i h = rw (drop-cons l i 0 (omega arith), drop_of_length-le l {i = suc i} (omega arith))
+pairs_even [] e = refl
+pairs_even (a ∷ []) e = absurd (omega arith)
+pairs_even (a ∷ b ∷ t) e = rw (pairs_even t (omega arith)) (and_assoc (is_digit a) (is_digit b) (list_all is_digit t))
 
-and_false : (a : Bool) → a && false ≡ false
-and_false true = refl
-and_false false = refl
-
--- ---- a loop over the pairs, at i: the line is pairs exactly if what is left of it is
-module _ (l : List ℕ) (i : ℕ) (so_far : digit_pairs l ≡ digit_pairs (drop i l)) where
-  pub pair_lacks : i < length l → length l - i < 2 → false ≡ digit_pairs l
-  pair_lacks h e = sym (so_far ∙ pairs_odd l i (omega arith))
-
-  pub pairs_done : length l ≤ i → true ≡ digit_pairs l
-  unfolding digit_pairs
-  pairs_done h = sym (so_far ∙ ap digit_pairs (drop_of_length-le l {i = i} h))
-
-  module _ (fits : suc i < length l) where
-    pub first_fails : is_digit (get_or l i 0) ≡ false → false ≡ digit_pairs l
-    first_fails e = sym (so_far ∙ pairs_at l i fits ∙ rw e)
-
-    pub second_fails : is_digit (get_or l (i + 1) 0) ≡ false → false ≡ digit_pairs l
-    second_fails e = sym (so_far ∙ pairs_at l i fits ∙ simp (e, and_false))
-
-    pub pair_passes : is_digit (get_or l i 0) ≡ true → is_digit (get_or l (i + 1) 0) ≡ true → digit_pairs l ≡ digit_pairs (drop (i + 2) l)
-    pair_passes p q = so_far ∙ pairs_at l i fits ∙ rw (p, q)
+pub pairs_odd : (l : List ℕ) → (length l % 2 ≡ 0 → ⊥) → digit_pairs l ≡ false
+unfolding digit_pairs
+pairs_odd [] e = absurd (e refl)
+pairs_odd (a ∷ []) e = refl
+pairs_odd (a ∷ b ∷ t) e = rw (pairs_odd t (λ h. e (omega arith))) (and-false (is_digit a && is_digit b))
 
 -- ---- the digits and the byte of pair number n of a line of pairs
 pairs_split : (l : List ℕ) (i : ℕ) → digit_pairs (drop i l) ≡ true → suc i < length l → (DigitsAt l i) × (digit_pairs (drop (i + 2) l) ≡ true)
@@ -56,8 +44,11 @@ pairs_after (suc n) l e h =
     let i : suc n + suc n ≡ n + n + 2 = omega arith in
     rw i (pairs_split l (n + n) (pairs_after n l e (omega arith)) (omega arith)).1
 
-pub digits_at : (n : ℕ) (l : List ℕ) → digit_pairs l ≡ true → suc (n + n) < length l → DigitsAt l (n + n)
-digits_at n l e h = (pairs_split l (n + n) (pairs_after n l e (omega arith)) h).0
+pub digits_at : (l : List ℕ) (i : ℕ) → digit_pairs l ≡ true → i % 2 ≡ 0 → i + 1 < length l → DigitsAt l i
+digits_at l i e even h =
+    let n : ℕ = i / 2 in
+    let twice : i ≡ n + n = omega arith in
+    rw twice (pairs_split l (n + n) (pairs_after n l e (omega arith)) (omega arith)).0
 
 pub bytes_at : (l : List ℕ) (i : ℕ) → suc i < length l → to_bytes (drop i l) ≡ byte_at l i ∷ to_bytes (drop (i + 2) l)
 unfolding to_bytes byte_at

@@ -6,7 +6,7 @@ use native.Mathlib.Nat.{add-zero, zero-add, suc-add, add-suc}
 use native.Mathlib.Numerals.{add-one}
 use native.Mathlib.Omega.{arith}
 use lib.ListN.{length, get_or, take, set, length-append}
-use lib.Seq.{sets, length-sets, sets-eq, take-suc, take_all}
+use lib.Seq.{sets, length-sets, sets-eq, take-suc}
 use Rattle.answers.specs.Rows.{over}
 use Rattle.digits.specs.Digit.{to_digits}
 use Rattle.digits.specs.Line.{feed, line_of}
@@ -70,10 +70,6 @@ module _ (bytes : List ℕ) (at : ℕ) (before : List ℕ) where
   digits_more k text after h p e =
       rw (add-one k, take-suc bytes k 0 h, digits_append (take k bytes) (get_or bytes k 0 ∷ []))
       (put_then p (record { place = omega arith; text = e }))
-
-  pub digits_all : (k : ℕ) (text : List ℕ) → length bytes ≤ k → Put (to_digits (take k bytes)) at before (at + 2 * k) text →
-      Put (to_digits bytes) at before (at + 2 * k) text
-  digits_all k text h p = rw (take_all k bytes h) at p
 
   -- a line feed ends them
   pub line_ended : (next : ℕ) (text : List ℕ) → Put (to_digits bytes) at before next text → Put (line_of bytes) at before (next + 1) (set text next feed)

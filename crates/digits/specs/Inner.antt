@@ -1,13 +1,11 @@
 -- What functions that read or write a text tell each other. No promise: it only ties functions together.
-use Rattle.std.specs.Prelude.{ℕ, ◌+◌, ◌*◌, ◌<◌, ◌≡◌, true, cond, List, length, get_or}
+use Rattle.std.specs.Prelude.{ℕ, ◌+◌, ◌*◌, ◌<◌, ◌≡◌, true, cond, Option, Some, None, List, length, get_or}
 use Rattle.std.proofs.lemmas.List.Edits.{sets}
-use Rattle.digits.specs.declared.Digit.{Digit}
-use Rattle.digits.specs.declared.Digit.TheVariants.{Value, NotDigit}
 use Rattle.digits.specs.Digit.{is_digit, digit_value}
 
 -- a byte of the text, read as a digit
-unfoldable pub digit_of : ℕ → Digit
-digit_of b = cond (is_digit b) (Value (digit_value b)) NotDigit
+unfoldable pub digit_of : ℕ → Option ℕ
+digit_of b = cond (is_digit b) (Some (digit_value b)) None
 
 -- two digits stand at i
 pub record DigitsAt (line : List ℕ) (i : ℕ) : Type 0 where

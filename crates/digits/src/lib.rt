@@ -2,82 +2,55 @@
 #![tactic(auto)]
 
 ghost use Rattle.std.specs.Prelude.{◌≡◌, true, [], ◌∷◌, ◌+◌, ◌*◌, ◌<◌, ◌≤◌, length};
+ghost use Rattle.std.specs.List.{list_all};
 ghost use Rattle.std.proofs.lemmas.List.Edits.{sets};
 ghost use Rattle.digits.specs.Digit.{is_digit, digit_value, digit_byte, digit_pairs, to_digits};
 ghost use Rattle.digits.specs.Line.{line_of};
 ghost use Rattle.digits.specs.Inner.{digit_of, byte_at, DigitsAt, Put};
 
-// A byte of the text as a digit.
-#[derive(Clone, Copy)]
-pub enum Digit {
-    Value(u8),
-    NotDigit,
-}
-
-const NINE: u8 = 57;
-
-const LETTER_F: u8 = 102;
-
-// By the two ranges of digits, 0-9 and a-f.
-pub fn digit_of(b: u8) -> Digit
+// The value of a digit, by the two ranges 0-9 and a-f; none for another byte.
+#[tactic(auto, unfolding(crate::specs::Inner::digit_of, crate::specs::Digit::is_digit, crate::specs::Digit::digit_value))]
+pub fn digit_of(b: u8) -> Option<u8>
     ensures { result ≡ digit_of b }
 {
-    if b < 48 {
-        return Digit::NotDigit;
+    match b {
+        b'0'..=b'9' => Some(b - b'0'),
+        b'a'..=b'f' => Some(b - b'a' + 10),
+        _ => None,
     }
-    if b <= NINE {
-        return Digit::Value(b - 48);
-    }
-    if b < 97 {
-        return Digit::NotDigit;
-    }
-    if b <= LETTER_F {
-        return Digit::Value(b - 87);
-    }
-    Digit::NotDigit
 }
 
+#[tactic(auto, unfolding(crate::specs::Inner::digit_of))]
 fn is_digit(b: u8) -> bool
     ensures { result ≡ is_digit b }
 {
-    match digit_of(b) {
-        Digit::Value(_) => true,
-        Digit::NotDigit => false,
-    }
+    digit_of(b).is_some()
 }
 
 // The value of a byte that is a digit.
+#[tactic(auto, unfolding(crate::specs::Inner::digit_of))]
 fn digit_value(b: u8) -> u8
     requires { is_digit b ≡ true }
     ensures { result ≡ digit_value b }
 {
-    match digit_of(b) {
-        Digit::Value(v) => v,
-        Digit::NotDigit => 0,
-    }
+    digit_of(b).unwrap()
+}
+
+fn all_digits(line: &[u8]) -> bool
+    ensures { result ≡ list_all is_digit line.now }
+{
+    line.iter().all(|b| is_digit(*b))
 }
 
 // Whether a line is pairs of digits, and nothing else.
 pub fn digit_pairs(line: &[u8]) -> bool
     ensures { result ≡ digit_pairs line.now }
 {
-    let mut i = 0;
-    while i < line.len() {
-        if line.len() - i < 2 {
-            return false;
-        }
-        if !is_digit(line[i]) {
-            return false;
-        }
-        if !is_digit(line[i + 1]) {
-            return false;
-        }
-        i += 2;
-    }
-    true
+    line.len() % 2 == 0 && all_digits(line)
 }
 
 // The byte that the two digits at i stand for, the high digit first.
+#[tactic(auto, using(crate::proofs::Digits::value_low), unfolding(crate::specs::Inner::byte_at))]
 pub fn byte_at(line: &[u8], i: usize) -> u8
     requires { DigitsAt line.now i }
     ensures { result ≡ byte_at line.now i }
@@ -90,6 +63,7 @@ pub fn byte_at(line: &[u8], i: usize) -> u8
 // ---- writing bytes as digits, and a line of them
 
 // The digit of a value below 16.
+#[tactic(auto, unfolding(crate::specs::Digit::digit_byte))]
 fn digit_byte(v: u8) -> u8
     requires { v < 16 }
     ensures { result ≡ digit_byte v }
@@ -98,6 +72,7 @@ fn digit_byte(v: u8) -> u8
 }
 
 // A byte as two digits, the high one first.
+#[tactic(auto, unfolding(crate::specs::Digit::to_digits))]
 fn put_byte(text: &mut [u8], at: usize, b: u8)
     requires { at + 2 ≤ length text.old }
     ensures { text.new ≡ sets text.old at (to_digits (b ∷ [])) }
@@ -111,15 +86,14 @@ pub fn put_bytes(text: &mut [u8], at: usize, bytes: &[u8]) -> usize
     requires { at + 2 * length bytes.now ≤ length text.old }
     ensures { Put (to_digits bytes.now) at text.old result text.new }
 {
-    let mut i = 0;
-    while i < bytes.len() {
-        put_byte(text, at + 2 * i, bytes[i]);
-        i += 1;
+    for (i, b) in bytes.iter().enumerate() {
+        put_byte(text, at + 2 * i, *b);
     }
-    at + 2 * i
+    at + 2 * bytes.len()
 }
 
 // The line of bytes; the answer is the place past it.
+#[tactic(auto, using(crate::proofs::Puts::digits_long))]
 pub fn put_line(text: &mut [u8], at: usize, bytes: &[u8]) -> usize
     requires { at + 2 * length bytes.now < length text.old }
     ensures { Put (line_of bytes.now) at text.old result text.new }

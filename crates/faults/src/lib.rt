@@ -1,26 +1,25 @@
-// The faults of a line. `frame_fault` reads as its rule does, from the last line to the first.
+// The faults of a line, as its rules list them.
 #![tactic(auto)]
 
-ghost use Rattle.std.specs.Prelude.{◌≡◌, not, ◌+◌, ◌*◌, ◌≤◌, ◌<◌, leb, eqb};
+ghost use Rattle.std.specs.Prelude.{◌≡◌, Ok, leb, IfOk};
 ghost use Rattle.answers.specs.Call.{first_refusal};
+ghost use Rattle.answers.specs.Refused.{code};
 ghost use Rattle.tables.specs.Sheet.{counts, entities};
 ghost use Rattle.frames.specs.Frame.{key};
-ghost use Rattle.frames.specs.Check.{misplaced, oversized, out_of_range, too_many, miscounted, frame_refusals, parsed_refusals, line_refusals};
-ghost use Rattle.faults.specs.Inner.{line_key};
+ghost use Rattle.frames.specs.Check.{misplaced, oversized, out_of_range, too_many, miscounted, frame_refusals, line_refusals};
 
+use answers::refused::{Refused, first_refused};
 use answers::sizes;
-use frames::{Frame, Parsed, Passed};
+use frames::{Frame, Passed};
 use tables::Counts;
 
+#[tactic(auto, unfolding(frames::specs::Check::misplaced))]
 fn is_misplaced(k: Passed, f: Frame) -> bool
     ensures { result ≡ misplaced k f }
 {
     match f {
-        Frame::Header(_, _, _) => 0 < k.lines,
-        Frame::Assign(_, _) => k.lines == 0,
-        Frame::Permit(_, _, _) => k.lines == 0,
-        Frame::Separate(_, _) => k.lines == 0,
-        Frame::End(_, _) => k.lines == 0,
+        Frame::Header(..) => k.lines > 0,
+        _ => k.lines == 0,
     }
 }
 
@@ -29,140 +28,100 @@ pub fn header_counts(s: u8, o: u8, r: u8) -> Counts
     ensures { result ≡ counts s o r }
 {
     Counts {
-        subjects: s as usize,
-        objects: o as usize,
-        roles: r as usize,
+        subjects: usize::from(s),
+        objects: usize::from(o),
+        roles: usize::from(r),
     }
 }
 
+#[tactic(auto, unfolding(frames::specs::Check::oversized))]
 fn is_oversized(f: Frame) -> bool
     ensures { result ≡ oversized f }
 {
     match f {
         Frame::Header(s, o, r) => refusals::counts_exceed(header_counts(s, o, r)),
-        Frame::Assign(_, _) => false,
-        Frame::Permit(_, _, _) => false,
-        Frame::Separate(_, _) => false,
-        Frame::End(_, _) => false,
+        _ => false,
     }
 }
 
 // Whether x is no entity; the sum of both counts is not formed, so it cannot wrap.
-fn no_entity(c: Counts, x: usize) -> bool
+#[tactic(auto, using(crate::proofs::Faults::above_first))]
+fn no_entity(c: Counts, x: u8) -> bool
     ensures { result ≡ leb (entities c) x }
 {
-    if x < c.subjects {
-        return false;
-    }
-    c.objects <= x - c.subjects
+    let x = usize::from(x);
+    x >= c.subjects && x - c.subjects >= c.objects
 }
 
+#[tactic(auto, unfolding(frames::specs::Check::out_of_range))]
 fn is_out_of_range(k: Passed, f: Frame) -> bool
     ensures { result ≡ out_of_range k f }
 {
     let c = k.counts;
     match f {
-        Frame::Header(_, _, _) => false,
-        Frame::Assign(s, r) => answers::either(c.subjects <= s as usize, c.roles <= r as usize),
+        Frame::Assign(s, r) => usize::from(s) >= c.subjects || usize::from(r) >= c.roles,
         Frame::Permit(r, o, m) => {
-            let pair = answers::either(c.roles <= r as usize, c.objects <= o as usize);
-            answers::either(answers::either(pair, m < 1), 3 < m)
+            usize::from(r) >= c.roles || usize::from(o) >= c.objects || m < 1 || m > 3
         }
-        Frame::Separate(x, y) => {
-            let from = no_entity(c, x as usize);
-            let to = no_entity(c, y as usize);
-            answers::either(from, to)
-        }
-        Frame::End(_, _) => false,
+        Frame::Separate(x, y) => no_entity(c, x) || no_entity(c, y),
+        _ => false,
     }
 }
 
+#[tactic(auto, unfolding(frames::specs::Check::too_many))]
 fn is_too_many(k: Passed, f: Frame) -> bool
     ensures { result ≡ too_many k f }
 {
-    match f {
-        Frame::Header(_, _, _) => false,
-        Frame::Assign(_, _) => false,
-        Frame::Permit(_, _, _) => false,
-        Frame::Separate(_, _) => sizes::MOST_SEPARATIONS <= k.separations,
-        Frame::End(_, _) => false,
-    }
+    matches!(f, Frame::Separate(..)) && k.separations >= sizes::MOST_SEPARATIONS
 }
 
-// Whether two bytes, the high one first, are another number than n.
-fn is_other(high: u8, low: u8, n: usize) -> bool
-    ensures { result ≡ not (eqb (high * 256 + low) n) }
-{
-    !(high as usize * 256 + low as usize == n)
-}
-
+#[tactic(auto, unfolding(frames::specs::Check::miscounted))]
 fn is_miscounted(k: Passed, f: Frame) -> bool
     ensures { result ≡ miscounted k f }
 {
     match f {
-        Frame::Header(_, _, _) => false,
-        Frame::Assign(_, _) => false,
-        Frame::Permit(_, _, _) => false,
-        Frame::Separate(_, _) => false,
-        Frame::End(h, l) => is_other(h, l, k.lines),
+        Frame::End(h, l) => usize::from(h) * 256 + usize::from(l) != k.lines,
+        _ => false,
     }
 }
 
-fn line_key(kind: usize, a: u8, b: u8) -> usize
-    requires { kind ≤ 5 }
-    ensures { result ≡ line_key kind a b }
-{
-    kind * 65536 + (a as usize * 256 + b as usize)
-}
-
+// The number by which lines ascend: the first three bytes of a line.
+#[tactic(auto, unfolding(frames::specs::Frame::key))]
 pub fn key_of(f: Frame) -> usize
     ensures { result ≡ key f }
 {
-    match f {
-        Frame::Header(s, o, _) => line_key(1, s, o),
-        Frame::Assign(s, r) => line_key(2, s, r),
-        Frame::Permit(r, o, _) => line_key(3, r, o),
-        Frame::Separate(x, y) => line_key(4, x, y),
-        Frame::End(h, l) => line_key(5, h, l),
-    }
+    let (kind, a, b) = match f {
+        Frame::Header(s, o, _) => (1, s, o),
+        Frame::Assign(s, r) => (2, s, r),
+        Frame::Permit(r, o, _) => (3, r, o),
+        Frame::Separate(x, y) => (4, x, y),
+        Frame::End(h, l) => (5, h, l),
+    };
+    kind * 65536 + usize::from(a) * 256 + usize::from(b)
 }
 
-// Whether a line does not ascend from the last one.
-fn is_late(k: Passed, f: Frame) -> bool
-    ensures { result ≡ leb (key f) k.last }
+fn frame_fault(k: Passed, f: Frame) -> Result<(), Refused>
+    ensures { code result ≡ first_refusal (frame_refusals k f) }
 {
-    key_of(f) <= k.last
+    first_refused(&[
+        (is_misplaced(k, f), Refused::Misplaced),
+        (is_oversized(f), Refused::Oversized),
+        (is_out_of_range(k, f), Refused::OutOfRange),
+        (key_of(f) <= k.last, Refused::NotAscending),
+        (is_too_many(k, f), Refused::TooMany),
+        (is_miscounted(k, f), Refused::NoEnd),
+    ])
 }
 
-// The number of a frame's first fault, 0 for none.
-fn frame_fault(k: Passed, f: Frame) -> u8
-    ensures { result ≡ first_refusal (frame_refusals k f) }
-{
-    let from_9 = answers::refuse(is_miscounted(k, f), 9, 0);
-    let from_8 = answers::refuse(is_too_many(k, f), 8, from_9);
-    let from_7 = answers::refuse(is_late(k, f), 7, from_8);
-    let from_6 = answers::refuse(is_out_of_range(k, f), 6, from_7);
-    let from_5 = answers::refuse(is_oversized(f), 5, from_6);
-    answers::refuse(is_misplaced(k, f), 4, from_5)
-}
-
-// The number of a line's first fault by itself, 0 for none.
-fn parsed_fault(k: Passed, p: Parsed) -> u8
-    ensures { result ≡ first_refusal (parsed_refusals k p) }
-{
-    match p {
-        Parsed::NoBytes => 2,
-        Parsed::NoFrame => 3,
-        Parsed::Good(f) => frame_fault(k, f),
-    }
-}
-
-// The number of a line's first fault, 0 for none. What a line after the end is like is not looked at.
-pub fn line_fault(k: Passed, p: Parsed) -> u8
-    ensures { result ≡ first_refusal (line_refusals k p) }
+// The frame of a line that has no fault. What a line after the end is like is not looked at.
+pub fn passing_frame(k: Passed, line: Result<Frame, Refused>) -> Result<Frame, Refused>
+    ensures fault { code result ≡ first_refusal (line_refusals k line) }
+    ensures frame { IfOk result (λ f. line ≡ Ok f) }
 {
     if k.ended {
-        return 9;
+        return Err(Refused::NoEnd);
     }
-    parsed_fault(k, p)
+    let frame = line?;
+    frame_fault(k, frame)?;
+    Ok(frame)
 }

@@ -4,16 +4,16 @@ use Prim.Native.Nat.{ℕ}
 use mathlib.Core.Path.{◌≡◌, refl}
 use mathlib.Core.Bool.{true, false}
 use mathlib.Core.List.{List, [], ◌∷◌, ◌++◌, map}
+use Rattle.std.specs.Prelude.{Ok, Err}
+use Rattle.answers.specs.declared.refused.Refused.TheVariants.{NoBytes, NoFrame}
 use Rattle.tables.specs.Sheet.{counts}
 use Rattle.digits.specs.Digit.{is_digit, digit_value, digit_byte, digit_pairs, to_bytes, to_digits}
 use Rattle.digits.specs.Line.{joined, lines, non_empty, sound_line, line_of}
 use Rattle.digits.specs.Text.{codes}
 use Rattle.frames.specs.declared.Frame.{Frame}
 use Rattle.frames.specs.declared.Frame.TheVariants.{Header, Assign, Permit, Separate, End}
-use Rattle.frames.specs.declared.Parsed.TheVariants.{NoBytes, NoFrame, Good}
-use Rattle.frames.specs.declared.CheckedText.TheVariants.{Refused, Accepted}
 use Rattle.frames.specs.Frame.{frame_bytes, of_three, of_four, frame_of, parse, text_of, key}
-use Rattle.frames.specs.Check.{passed, start, next, next_line, parsed_lines, frames_of}
+use Rattle.frames.specs.Check.{passed, start, next, next_line, parsed_lines, frames_of, Refused, Accepted}
 use Rattle.frames.proofs.Verdicts.{bytes_verdict, verdict, separated}
 
 pub record Passing : Type 0 where
@@ -186,8 +186,8 @@ five_frames = Header 3 4 5 ∷ Assign 2 1 ∷ Permit 1 0 3 ∷ Separate 0 4 ∷ 
 
 pub record OneEach : Type 0 where
   written : text_of five_frames ≡ five_lines
-  read : parsed_lines five_lines ≡ map Good five_frames
-  picked : frames_of (Good (Assign 2 1) ∷ NoBytes ∷ NoFrame ∷ Good (End 0 4) ∷ []) ≡ Assign 2 1 ∷ End 0 4 ∷ []
+  read : parsed_lines five_lines ≡ map Ok five_frames
+  picked : frames_of (Ok (Assign 2 1) ∷ Err NoBytes ∷ Err NoFrame ∷ Ok (End 0 4) ∷ []) ≡ Assign 2 1 ∷ End 0 4 ∷ []
 
 -- "one frame a line": five lines, one of each kind, are the text of five frames and are read as these; a line that is none gives no frame
 pub one_each : OneEach
@@ -203,9 +203,9 @@ pub record Known : Type 0 where
   separation : next (passed 3 false (counts 3 4 5) 196864 0) (Separate 0 4) ≡ passed 4 false (counts 3 4 5) 262148 1
   other_header : next (passed 4 false (counts 3 4 5) 262148 1) (Header 6 7 8) ≡ passed 5 false (counts 6 7 8) 67079 1
   end : next (passed 4 false (counts 3 4 5) 262148 1) (End 0 4) ≡ passed 5 true (counts 3 4 5) 327684 1
-  frame : next_line start (Good (Header 3 4 5)) ≡ next start (Header 3 4 5)
-  no_bytes : next_line (passed 1 false (counts 3 4 5) 66308 0) NoBytes ≡ passed 1 false (counts 3 4 5) 66308 0
-  no_frame : next_line (passed 1 false (counts 3 4 5) 66308 0) NoFrame ≡ passed 1 false (counts 3 4 5) 66308 0
+  frame : next_line start (Ok (Header 3 4 5)) ≡ next start (Header 3 4 5)
+  no_bytes : next_line (passed 1 false (counts 3 4 5) 66308 0) (Err NoBytes) ≡ passed 1 false (counts 3 4 5) 66308 0
+  no_frame : next_line (passed 1 false (counts 3 4 5) 66308 0) (Err NoFrame) ≡ passed 1 false (counts 3 4 5) 66308 0
 
 pub known : Known
 unfolding start next next_line key

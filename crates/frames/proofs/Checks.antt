@@ -6,17 +6,17 @@ use mathlib.Core.Bool.{Bool, true, false, cond, true≢false}
 use mathlib.Core.List.{List, [], ◌∷◌, map}
 use native.Mathlib.Omega.{arith}
 use borrow.Author.Tests.{leb-false, lt-leb}
-use lib.Dec.{T, ltb}
+use Rattle.std.specs.Prelude.{Ok, Err}
 use Rattle.answers.specs.Call.{◌if◌, first_refusal}
+use Rattle.answers.specs.declared.refused.Refused.{Refused as Why}
+use Rattle.answers.specs.Refused.{number}
+use Rattle.answers.proofs.Exits.{some_number}
 use Rattle.answers.proofs.Calls.{passed as none-held}
 use Rattle.frames.specs.declared.Frame.{Frame}
 use Rattle.frames.specs.declared.Frame.TheVariants.{Header, Assign, Permit, Separate, End}
-use Rattle.frames.specs.declared.Parsed.{Parsed}
-use Rattle.frames.specs.declared.Parsed.TheVariants.{NoBytes, NoFrame, Good}
 use Rattle.frames.specs.declared.Passed.{Passed}
-use Rattle.frames.specs.declared.CheckedText.TheVariants.{Refused, Accepted}
-use Rattle.frames.specs.Frame.{text_of, key}
-use Rattle.frames.specs.Check.{start, next, misplaced, oversized, out_of_range, too_many, miscounted, frame_refusals, parsed_refusals, line_refusals, next_line, check, parsed_lines, frames_of}
+use Rattle.frames.specs.Frame.{text_of, key, Parsed}
+use Rattle.frames.specs.Check.{start, next, misplaced, oversized, out_of_range, too_many, miscounted, frame_refusals, parsed_refusals, line_refusals, next_line, check, parsed_lines, frames_of, Refused, Accepted}
 use Rattle.frames.proofs.Frames.{FrameBytes, text_read}
 
 -- a frame that passes after the lines k: none of its refusals holds
@@ -29,7 +29,7 @@ pub record Fine (k : Passed) (f : Frame) : Type 0 where
   pub not_too_many : too_many k f ≡ false
   pub well_counted : miscounted k f ≡ false
 
-pub fine_of : (k : Passed) (f : Frame) → first_refusal (line_refusals k (Good f)) ≡ 0 → Fine k f
+pub fine_of : (k : Passed) (f : Frame) → first_refusal (line_refusals k (Ok f)) ≡ 0 → Fine k f
 unfolding line_refusals parsed_refusals frame_refusals
 fine_of k f e =
     let a = none-held _ k.ended _ tt e in
@@ -49,7 +49,7 @@ fine_of k f e =
       well_counted = i.0;
     }
 
-pub of_fine : (k : Passed) (f : Frame) → Fine k f → first_refusal (line_refusals k (Good f)) ≡ 0
+pub of_fine : (k : Passed) (f : Frame) → Fine k f → first_refusal (line_refusals k (Ok f)) ≡ 0
 unfolding line_refusals parsed_refusals frame_refusals first_refusal
 of_fine k f p =
     simp (
@@ -98,45 +98,48 @@ refused_number k (p ∷ ps) n line h = go (first_refusal (line_refusals k p)) re
     go (suc m) e later z = let same : suc m ≡ n = cc (check_stop k p ps m e) in omega arith
 
 -- a frame that passes, and the lines after it; and back
-pub frame_passed : (k : Passed) (f : Frame) (ps : List Parsed) → check k (Good f ∷ ps) ≡ Accepted → Fine k f × (check (next k f) ps ≡ Accepted)
+pub frame_passed : (k : Passed) (f : Frame) (ps : List Parsed) → check k (Ok f ∷ ps) ≡ Accepted → Fine k f × (check (next k f) ps ≡ Accepted)
 unfolding next_line
-frame_passed k f ps h = let x = line_passed k (Good f) ps h in (fine_of k f x.0, x.1)
+frame_passed k f ps h = let x = line_passed k (Ok f) ps h in (fine_of k f x.0, x.1)
 
-pub frame_passes : (k : Passed) (f : Frame) (ps : List Parsed) → Fine k f → check (next k f) ps ≡ Accepted → check k (Good f ∷ ps) ≡ Accepted
+pub frame_passes : (k : Passed) (f : Frame) (ps : List Parsed) → Fine k f → check (next k f) ps ≡ Accepted → check k (Ok f ∷ ps) ≡ Accepted
 unfolding next_line
-frame_passes k f ps p h = check_go k (Good f) ps (of_fine k f p) ∙ h
+frame_passes k f ps p h = check_go k (Ok f) ps (of_fine k f p) ∙ h
 
 -- "no end line", and "bytes after it"
 pub end_lacks : (k : Passed) → k.ended ≡ false → check k [] ≡ Accepted → ⊥
 unfolding check
 end_lacks k e h = not_refused (rw e at h)
 
-pub nothing_after : (k : Passed) (f : Frame) (ps : List Parsed) → k.ended ≡ true → check k (Good f ∷ ps) ≡ Accepted → ⊥
+pub nothing_after : (k : Passed) (f : Frame) (ps : List Parsed) → k.ended ≡ true → check k (Ok f ∷ ps) ≡ Accepted → ⊥
 nothing_after k f ps e h = true≢false (sym e ∙ (frame_passed k f ps h).0.not_ended)
 
 -- a line more is counted once at most
 pub more_lines : (k : Passed) (x : Parsed) → (next_line k x).lines ≤ k.lines + 1
 unfolding next_line next
-more_lines k NoBytes = omega arith
-more_lines k NoFrame = omega arith
-more_lines k (Good (Header s o r)) = omega arith
-more_lines k (Good (Assign s r)) = omega arith
-more_lines k (Good (Permit r o m)) = omega arith
-more_lines k (Good (Separate v u)) = omega arith
-more_lines k (Good (End v l)) = omega arith
+more_lines k (Err why) = omega arith
+more_lines k (Ok (Header s o r)) = omega arith
+more_lines k (Ok (Assign s r)) = omega arith
+more_lines k (Ok (Permit r o m)) = omega arith
+more_lines k (Ok (Separate v u)) = omega arith
+more_lines k (Ok (End v l)) = omega arith
 
 -- ---- a text that passes is one of frames
-always_refused : (m n : ℕ) (t : Bool) → T (ltb 0 m) → T (ltb 0 n) → first_refusal ((m if t) ∷ (n if true) ∷ []) ≡ 0 → ⊥
-always_refused m n t p q e = true≢false (none-held n true [] q (none-held m t _ p e).1).0
+pub err_refused : (k : Passed) (why : Why) → first_refusal (line_refusals k (Err why)) ≡ 0 → ⊥
+unfolding first_refusal line_refusals parsed_refusals
+err_refused k why = go k.ended
+  where
+    go : (t : Bool) → first_refusal ((9 if t) ∷ (number why if true) ∷ []) ≡ 0 → ⊥
+    go true e = omega arith
+    go false e = some_number why e
 
-pub all_frames : (k : Passed) (ps : List Parsed) → check k ps ≡ Accepted → ps ≡ map Good (frames_of ps)
+pub all_frames : (k : Passed) (ps : List Parsed) → check k ps ≡ Accepted → ps ≡ map Ok (frames_of ps)
 unfolding frames_of next_line line_refusals parsed_refusals
 all_frames k [] h = refl
-all_frames k (NoBytes ∷ ps) h = absurd (always_refused _ _ k.ended tt tt (line_passed k NoBytes ps h).0)
-all_frames k (NoFrame ∷ ps) h = absurd (always_refused _ _ k.ended tt tt (line_passed k NoFrame ps h).0)
-all_frames k (Good f ∷ ps) h = ap (λ (l : List Parsed). Good f ∷ l) (all_frames (next k f) ps (frame_passed k f ps h).1)
+all_frames k (Err why ∷ ps) h = absurd (err_refused k why (line_passed k (Err why) ps h).0)
+all_frames k (Ok f ∷ ps) h = ap (λ (l : List Parsed). Ok f ∷ l) (all_frames (next k f) ps (frame_passed k f ps h).1)
 
-pub frames_again : (fs : List Frame) → frames_of (map Good fs) ≡ fs
+pub frames_again : (fs : List Frame) → frames_of (map Ok fs) ≡ fs
 unfolding frames_of
 frames_again [] = refl
 frames_again (f ∷ fs) = ap (λ (l : List Frame). f ∷ l) (frames_again fs)
@@ -145,10 +148,10 @@ frames_again (f ∷ fs) = ap (λ (l : List Frame). f ∷ l) (frames_again fs)
 pub record TextOf (text : List ℕ) (fs : List Frame) : Type 0 where
   pub is_text : text_of fs ≡ text
   pub of_bytes : FrameBytes fs
-  pub pass : check start (map Good fs) ≡ Accepted
+  pub pass : check start (map Ok fs) ≡ Accepted
 
 pub accepted_frames : (text : List ℕ) → check start (parsed_lines text) ≡ Accepted → TextOf text (frames_of (parsed_lines text))
 accepted_frames text h =
-    let g : parsed_lines text ≡ map Good (frames_of (parsed_lines text)) = all_frames start (parsed_lines text) h in
+    let g : parsed_lines text ≡ map Ok (frames_of (parsed_lines text)) = all_frames start (parsed_lines text) h in
     let r = text_read text (frames_of (parsed_lines text)) g in
     record { is_text = r.0; of_bytes = r.1; pass = rw g at h }

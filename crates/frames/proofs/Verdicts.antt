@@ -6,9 +6,8 @@ use Rattle.answers.specs.Call.{first_refusal}
 use Rattle.digits.specs.Digit.{is_digit, digit_value, digit_byte, digit_pairs, to_bytes, to_digits}
 use Rattle.digits.specs.Line.{joined, lines, non_empty, sound_line, line_of}
 use Rattle.digits.specs.Text.{codes}
-use Rattle.frames.specs.declared.CheckedText.{CheckedText}
 use Rattle.frames.specs.Frame.{of_three, of_four, frame_of, parse, key}
-use Rattle.frames.specs.Check.{start, next, misplaced, oversized, out_of_range, too_many, miscounted, frame_refusals, parsed_refusals, line_refusals, next_line, check, parsed_lines}
+use Rattle.frames.specs.Check.{start, next, misplaced, oversized, out_of_range, too_many, miscounted, frame_refusals, parsed_refusals, line_refusals, next_line, check, parsed_lines, CheckedText}
 
 unfoldable pub bytes_verdict : List ℕ → CheckedText
 unfolding is_digit digit_value digit_pairs to_bytes joined lines non_empty sound_line of_three of_four frame_of parse key start next misplaced oversized out_of_range too_many miscounted first_refusal frame_refusals parsed_refusals line_refusals next_line check parsed_lines

@@ -1,19 +1,17 @@
 -- The check of a whole text: "line by line, the first faulty line decides", and within a line the first of its faults.
-use Rattle.std.specs.Prelude.{ℕ, zero, suc, ◌+◌, ◌*◌, Bool, true, false, cond, not, ◌||◌, List, [], ◌∷◌, map, leb, ltb, eqb}
+use Rattle.std.specs.Prelude.{ℕ, zero, suc, ◌+◌, ◌*◌, Bool, true, false, cond, not, ◌||◌, Result, Ok, Err, List, [], ◌∷◌, map, leb, ltb, eqb}
 use Rattle.tables.specs.declared.Counts.{Counts}
 use Rattle.answers.specs.Sizes.{most_subjects, most_objects, most_roles, most_separations}
 use Rattle.answers.specs.Call.{Refusal, ◌if◌, first_refusal}
+use Rattle.answers.specs.Refused.{number}
 use Rattle.answers.specs.Rows.{exceeds}
 use Rattle.tables.specs.Sheet.{counts, entities}
 use Rattle.digits.specs.Line.{lines}
 use Rattle.frames.specs.declared.Frame.{Frame}
 use Rattle.frames.specs.declared.Frame.TheVariants.{Header, Assign, Permit, Separate, End}
-use Rattle.frames.specs.declared.Parsed.{Parsed}
-use Rattle.frames.specs.declared.Parsed.TheVariants.{NoBytes, NoFrame, Good}
 use Rattle.frames.specs.declared.Passed.{Passed}
-use Rattle.frames.specs.declared.CheckedText.{CheckedText}
-use Rattle.frames.specs.declared.CheckedText.TheVariants.{Refused, Accepted}
-use Rattle.frames.specs.Frame.{parse, key}
+use Rattle.frames.specs.declared.RefusedText.{RefusedText}
+use Rattle.frames.specs.Frame.{Parsed, parse, key}
 
 -- what is known of the lines before: how many, whether the end line was among them, the header's counts, the key of the last, the
 -- separations
@@ -86,9 +84,8 @@ frame_refusals k f =
 
 -- "2; 3", and then those of the frame
 unfoldable pub parsed_refusals : Passed → Parsed → List Refusal
-parsed_refusals k NoBytes = (2 if true) ∷ []
-parsed_refusals k NoFrame = (3 if true) ∷ []
-parsed_refusals k (Good f) = frame_refusals k f
+parsed_refusals k (Err why) = (number why if true) ∷ []
+parsed_refusals k (Ok f) = frame_refusals k f
 
 -- "Within a line: 9 if the end line has passed; 2; 3; 4; 5 for header counts; 6; 7; 8; 9 for the end count"
 unfoldable pub line_refusals : Passed → Parsed → List Refusal
@@ -96,9 +93,18 @@ line_refusals k p = (9 if k.ended) ∷ parsed_refusals k p
 
 -- what is known after a line that is not refused
 unfoldable pub next_line : Passed → Parsed → Passed
-next_line k NoBytes = k
-next_line k NoFrame = k
-next_line k (Good f) = next k f
+next_line k (Err why) = k
+next_line k (Ok f) = next k f
+
+-- what a whole text comes to: a refusal by its number and its line, or none
+pub data CheckedText : Type 0 where
+  Refused : ℕ → ℕ → CheckedText
+  Accepted : CheckedText
+
+-- the same of what code answers: "Where an answer is an enum, a definition gives this paper's number and values for each of its cases"
+abbrev pub checked : {T : Type 0} → Result T RefusedText → CheckedText
+checked (Ok value) = Accepted
+checked (Err refused) = Refused (number refused.why) refused.line
 
 -- "the first faulty line decides"; "If the text stops with no end line: 9, with the number of lines plus 1"
 unfoldable pub check : Passed → List Parsed → CheckedText
@@ -112,6 +118,5 @@ parsed_lines t = map parse (lines t)
 -- the frames among them
 unfoldable pub frames_of : List Parsed → List Frame
 frames_of [] = []
-frames_of (NoBytes ∷ ps) = frames_of ps
-frames_of (NoFrame ∷ ps) = frames_of ps
-frames_of (Good f ∷ ps) = f ∷ frames_of ps
+frames_of (Err why ∷ ps) = frames_of ps
+frames_of (Ok f ∷ ps) = f ∷ frames_of ps

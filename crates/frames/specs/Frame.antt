@@ -1,12 +1,12 @@
 -- Frames: their bytes, and the order of their lines.
-use Rattle.std.specs.Prelude.{ℕ, ◌+◌, ◌*◌, ◌<◌, ◌≡◌, ◌⊎◌, cond, List, [], ◌∷◌, ◌++◌, eqb, get_or}
+use Rattle.std.specs.Prelude.{ℕ, ◌+◌, ◌*◌, ◌<◌, ◌≡◌, ◌⊎◌, cond, Result, Ok, Err, List, [], ◌∷◌, ◌++◌, eqb, get_or}
+use Rattle.answers.specs.declared.refused.Refused.{Refused as Why}
+use Rattle.answers.specs.declared.refused.Refused.TheVariants.{NoBytes, NoFrame}
 use Rattle.tables.specs.Sheet.{PairBefore, pair_key}
 use Rattle.digits.specs.Digit.{to_bytes}
 use Rattle.digits.specs.Line.{Line, sound_line, line_of}
 use Rattle.frames.specs.declared.Frame.{Frame}
 use Rattle.frames.specs.declared.Frame.TheVariants.{Header, Assign, Permit, Separate, End}
-use Rattle.frames.specs.declared.Parsed.{Parsed}
-use Rattle.frames.specs.declared.Parsed.TheVariants.{NoBytes, NoFrame, Good}
 
 -- "Bytes of a frame": 01 S O R, 02 s r, 03 r o m, 04 x y, 05 h l
 unfoldable pub frame_bytes : Frame → List ℕ
@@ -16,26 +16,30 @@ frame_bytes (Permit r o m) = 3 ∷ r ∷ o ∷ m ∷ []
 frame_bytes (Separate x y) = 4 ∷ x ∷ y ∷ []
 frame_bytes (End h l) = 5 ∷ h ∷ l ∷ []
 
+-- what a line comes to: "one frame a line", or the refusal of a line that is none, 2 or 3
+abbrev pub Parsed : Type 0
+Parsed = Result Frame Why
+
 -- three bytes and four: "3 | first byte is not 01 to 05, or the frame's length is not its kind's"
 unfoldable pub of_three : ℕ → ℕ → ℕ → Parsed
-of_three k a b = cond (eqb k 2) (Good (Assign a b)) (cond (eqb k 4) (Good (Separate a b)) (cond (eqb k 5) (Good (End a b)) NoFrame))
+of_three k a b = cond (eqb k 2) (Ok (Assign a b)) (cond (eqb k 4) (Ok (Separate a b)) (cond (eqb k 5) (Ok (End a b)) (Err NoFrame)))
 
 -- "01 S O R" and "03 r o m" have four
 unfoldable pub of_four : ℕ → ℕ → ℕ → ℕ → Parsed
-of_four k a b c = cond (eqb k 1) (Good (Header a b c)) (cond (eqb k 3) (Good (Permit a b c)) NoFrame)
+of_four k a b c = cond (eqb k 1) (Ok (Header a b c)) (cond (eqb k 3) (Ok (Permit a b c)) (Err NoFrame))
 
 -- the frame that bytes are
 unfoldable pub frame_of : List ℕ → Parsed
-frame_of [] = NoFrame
-frame_of (k ∷ []) = NoFrame
-frame_of (k ∷ a ∷ []) = NoFrame
+frame_of [] = Err NoFrame
+frame_of (k ∷ []) = Err NoFrame
+frame_of (k ∷ a ∷ []) = Err NoFrame
 frame_of (k ∷ a ∷ b ∷ []) = of_three k a b
 frame_of (k ∷ a ∷ b ∷ c ∷ []) = of_four k a b c
-frame_of (k ∷ a ∷ b ∷ c ∷ d ∷ t) = NoFrame
+frame_of (k ∷ a ∷ b ∷ c ∷ d ∷ t) = Err NoFrame
 
 -- "one frame a line"
 unfoldable pub parse : Line → Parsed
-parse l = cond (sound_line l) (frame_of (to_bytes l.bytes)) NoBytes
+parse l = cond (sound_line l) (frame_of (to_bytes l.bytes)) (Err NoBytes)
 
 -- the text of frames, a line each
 unfoldable pub text_of : List Frame → List ℕ

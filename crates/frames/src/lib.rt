@@ -1,6 +1,10 @@
-// The frames of a sheet's text, and the check of a whole text: types, definitions and laws. No code.
+// The frames of a sheet's text, and the check of a whole text: types, definitions and laws.
 #![tactic(auto)]
 
+ghost use Rattle.std.specs.Prelude.{◌≡◌};
+ghost use Rattle.frames.specs.Check.{start};
+
+use answers::refused::Refused;
 use tables::Counts;
 
 // One line of a sheet.
@@ -13,14 +17,6 @@ pub enum Frame {
     End(u8, u8),
 }
 
-// What a line comes to: no bytes in hexadecimal, bytes that are no frame, or a frame.
-#[derive(Clone, Copy)]
-pub enum Parsed {
-    NoBytes,
-    NoFrame,
-    Good(Frame),
-}
-
 // What is known of the lines that were read.
 #[derive(Clone, Copy)]
 pub struct Passed {
@@ -31,9 +27,29 @@ pub struct Passed {
     pub separations: usize,
 }
 
-// What a whole text comes to: a number at a line, or nothing to refuse.
+impl Passed {
+    // Before the first line.
+    #[tactic(auto, unfolding(crate::specs::Check::start))]
+    pub fn start() -> Passed
+        ensures { result ≡ start }
+    {
+        Passed {
+            lines: 0,
+            ended: false,
+            counts: Counts {
+                subjects: 0,
+                objects: 0,
+                roles: 0,
+            },
+            last: 0,
+            separations: 0,
+        }
+    }
+}
+
+// Why a text is refused, and at which line: counted from 1.
 #[derive(Clone, Copy)]
-pub enum CheckedText {
-    Refused(u8, usize),
-    Accepted,
+pub struct RefusedText {
+    pub why: Refused,
+    pub line: usize,
 }

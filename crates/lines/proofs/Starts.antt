@@ -1,5 +1,5 @@
 -- Lines one after another: where the line that begins at a place ends, and where the next one begins.
-use Prim.Native.Nat.{ℕ, zero, suc, ◌+◌, ◌-◌, ◌≤◌, ◌<◌}
+use Prim.Native.Nat.{ℕ, zero, suc, ◌+◌, ◌-◌, min, ◌≤◌, ◌<◌}
 use mathlib.Core.Path.{◌≡◌, refl, sym, ◌∙◌}
 use mathlib.Core.Bool.{Bool, true, false, cond}
 use mathlib.Core.List.{List, [], ◌∷◌, ◌++◌}
@@ -7,13 +7,16 @@ use native.Mathlib.Nat.{add-zero, add-suc}
 use native.Mathlib.Numerals.{add-one}
 use native.Mathlib.Decide.{ℕ_discrete, dec_lt}
 use native.Mathlib.Omega.{arith}
-use borrow.Author.Tests.{eq-eqb}
-use lib.Dec.{eqb}
+use borrow.Author.Tests.{eq-eqb, ne_eqb, ltb-true, ltb-false}
+use lib.Dec.{eqb, ltb}
 use lib.ListN.{length, get_or, take, drop, length-drop}
-use lib.Seq.{drop-cons, drop-length, drop-drop, take-add, get_or-drop}
+use lib.Seq.{take_all, drop-length, drop-drop, take-add, get_or-drop}
+use Rattle.std.specs.Prelude.{Some, None}
+use Rattle.std.specs.List.{position, position_or_len}
+use Rattle.std.proofs.lemmas.List.Recursion.{is_position_or_len}
 use Rattle.digits.specs.Line.{Line, line, feed, no_line, joined, lines, line_size, size_of, line_start, line_end}
 use Rattle.digits.proofs.Lines.{lines_joined}
-use Rattle.lines.specs.Inner.{EndsAt}
+use Rattle.lines.proofs.Places.{end_within}
 
 -- the end of the line that begins at `at`
 abbrev pub end_from : List ℕ → ℕ → ℕ
@@ -23,12 +26,16 @@ end_from t at = at + line_end (drop at t) 1
 abbrev pub next_from : List ℕ → ℕ → ℕ
 next_from t at = at + line_start (drop at t) 2
 
+-- a text from a place on
+pub rest : (t : List ℕ) (at : ℕ) → take (length t - at) (drop at t) ≡ drop at t
+rest t at = take_all (length t - at) (drop at t) (omega (arith, length-drop at t))
+
 -- ---- the first line, byte by byte
-first_fed : (b : ℕ) (t : List ℕ) → b ≡ feed → (line_end (b ∷ t) 1 ≡ 0) × (line_start (b ∷ t) 2 ≡ 1)
+pub first_fed : (b : ℕ) (t : List ℕ) → b ≡ feed → (line_end (b ∷ t) 1 ≡ 0) × (line_start (b ∷ t) 2 ≡ 1)
 unfolding line_end line_start size_of line_size lines
 first_fed b t e = rw (eq-eqb b feed e) (refl, refl)
 
-first_more : (b : ℕ) (t : List ℕ) → (b ≡ feed → ⊥) → line_end (b ∷ t) 1 ≡ suc (line_end t 1)
+pub first_more : (b : ℕ) (t : List ℕ) → (b ≡ feed → ⊥) → line_end (b ∷ t) 1 ≡ suc (line_end t 1)
 unfolding line_end line_start size_of joined
 first_more b t e = rw (lines_joined b t e) (go (lines t))
   where
@@ -36,15 +43,36 @@ first_more b t e = rw (lines_joined b t e) (go (lines t))
     go [] = refl
     go (l ∷ ls) = omega arith
 
--- the line ends at a line feed
-pub ends_here : (t : List ℕ) (at : ℕ) → at < length t → get_or t at 0 ≡ feed → end_from t at ≡ at
-ends_here t at h e = rw (drop-cons t at 0 h, (first_fed (get_or t at 0) (drop (suc at) t) e).0, add-zero)
+nothing_ends : line_end [] 1 ≡ 0
+unfolding line_end line_start lines size_of
+nothing_ends = refl
 
--- and goes on past another byte
-pub goes_on : (t : List ℕ) (at : ℕ) → at < length t → (get_or t at 0 ≡ feed → ⊥) → end_from t (at + 1) ≡ end_from t at
-goes_on t at h e = rw (drop-cons t at 0 h, first_more (get_or t at 0) (drop (suc at) t) e, add-one) (omega arith)
+-- so it ends at the first line feed, if there is one
+first_end : (t : List ℕ) → line_end t 1 ≡ position_or_len (λ b. eqb b feed) t
+first_end t = is_position_or_len (λ l. line_end l 1) (λ b. eqb b feed) nothing_ends (λ b l. step b l (ℕ_discrete b feed)) t
+  where
+    step : (b : ℕ) (l : List ℕ) → Dec (b ≡ feed) → line_end (b ∷ l) 1 ≡ cond (eqb b feed) 0 (1 + line_end l 1)
+    step b l (yes e) = rw (eq-eqb b feed e) (first_fed b l e).0
+    step b l (no e) = rw (ne_eqb b feed e) (first_more b l e ∙ omega arith)
 
--- and ends with the text
+module _ (t : List ℕ) where
+  pub feed_found : (n : ℕ) → Some n ≡ position (λ b. eqb b feed) t → (n ≡ line_end t 1) × (n ≤ length t)
+  feed_found n = go (ltb (position_or_len (λ b. eqb b feed) t) (length t)) refl
+    where
+      go : (x : Bool) → ltb (position_or_len (λ b. eqb b feed) t) (length t) ≡ x → Some n ≡ cond x (Some (position_or_len (λ b. eqb b feed) t)) None →
+          (n ≡ line_end t 1) × (n ≤ length t)
+      go true l e = let same : n ≡ position_or_len (λ b. eqb b feed) t = cc in (omega (arith, first_end t), omega (arith, ltb-true _ _ l))
+      go false l e = absurd (cc)
+
+  pub no_feed_found : None ≡ position (λ b. eqb b feed) t → length t ≡ line_end t 1
+  no_feed_found = go (ltb (position_or_len (λ b. eqb b feed) t) (length t)) refl
+    where
+      go : (x : Bool) → ltb (position_or_len (λ b. eqb b feed) t) (length t) ≡ x → None ≡ cond x (Some (position_or_len (λ b. eqb b feed) t)) None →
+          length t ≡ line_end t 1
+      go true l e = absurd (cc)
+      go false l e = omega (arith, first_end t, ltb-false _ _ l, end_within t 1)
+
+-- where no text is left it ends at once
 pub ends_last : (t : List ℕ) (at : ℕ) → at ≡ length t → end_from t at ≡ at
 unfolding line_end line_start lines size_of
 ends_last t at e = rw (e, drop-length) (omega arith)
@@ -73,13 +101,14 @@ first_next (b ∷ t) = go (ℕ_discrete b feed) (first_next t)
         let next = start_more b t e in
         (λ h. omega (arith, rest.0 (omega arith)), λ h. omega (arith, rest.1 (omega arith)))
 
--- the next line begins past the line feed of this one
-pub past_feed : (t : List ℕ) (at : ℕ) → at ≤ length t → end_from t at < length t → next_from t at ≡ end_from t at + 1
-past_feed t at h l = let long = length-drop at t in omega (arith, (first_next (drop at t)).0 (omega arith))
-
--- and where there is none, the text has ended
-pub past_last : (t : List ℕ) (at : ℕ) → at ≤ length t → length t ≤ end_from t at → next_from t at ≡ end_from t at
-past_last t at h l = let long = length-drop at t in omega (arith, (first_next (drop at t)).1 (omega arith))
+-- the next line begins past the line feed of this one, or where the text ends
+pub next_begins : (t : List ℕ) (at : ℕ) → at ≤ length t → next_from t at ≡ min (length t) (end_from t at + 1)
+next_begins t at h =
+    go (dec_lt (line_end (drop at t) 1) (length (drop at t)))
+  where
+    go : Dec (line_end (drop at t) 1 < length (drop at t)) → next_from t at ≡ min (length t) (end_from t at + 1)
+    go (yes l) = omega (arith, (first_next (drop at t)).0 l, length-drop at t)
+    go (no l) = omega (arith, (first_next (drop at t)).1 (omega arith), length-drop at t, end_within (drop at t) 1)
 
 -- ---- the line after the first
 -- past the first line stand the others
@@ -152,21 +181,3 @@ start_last t (suc k) number some h e =
 pub start_none : (t : List ℕ) (number : ℕ) → number ≡ 0 → length t ≡ line_start t number
 unfolding line_start
 start_none t number e = rw e
-
--- ---- an end that was found by looking for a line feed
-ends_after : (k : ℕ) (t : List ℕ) (at e : ℕ) → e ≡ at + k → EndsAt t at e → end_from t at ≡ e
-ends_after zero t at e q h = go (dec_lt at (length t))
-  where
-    same : e ≡ at
-    same = omega arith
-
-    go : Dec (at < length t) → end_from t at ≡ e
-    go (yes l) = ends_here t at l (rw same at (h.fed (omega arith))) ∙ sym same
-    go (no l) = ends_last t at (omega (arith, h.within)) ∙ sym same
-ends_after (suc k) t at e q h =
-    sym (goes_on t at (omega (arith, h.within)) (h.none at (omega arith) (omega arith)))
-    ∙ ends_after k t (at + 1) e (omega arith)
-    (record { after = omega arith; within = h.within; none = λ i l m. h.none i (omega arith) m; fed = h.fed })
-
-pub ends_from : (t : List ℕ) (at e : ℕ) → EndsAt t at e → e ≡ end_from t at
-ends_from t at e h = sym (ends_after (e - at) t at e (omega (arith, h.after)) h)

@@ -1,49 +1,33 @@
 -- What a line comes to, by the count of its digits; and the line that starts at p.
-use Prim.Native.Nat.{ℕ, ◌+◌, ◌-◌, ◌<◌}
+use Prim.Native.Nat.{ℕ, ◌+◌, ◌-◌, ◌<◌, ◌≤◌}
 use mathlib.Core.Path.{◌≡◌, ap, refl, sym, ◌∙◌}
 use mathlib.Core.Bool.{Bool, true, false, cond, ◌&&◌}
 use mathlib.Core.List.{List, [], ◌∷◌, map}
 use native.Mathlib.Omega.{arith}
 use lib.Dec.{ltb}
 use lib.ListN.{length, take, drop}
+use Rattle.std.specs.Prelude.{Err}
+use Rattle.answers.specs.declared.refused.Refused.TheVariants.{NoBytes, NoFrame}
 use Rattle.digits.specs.Digit.{digit_pairs, to_bytes}
-use Rattle.digits.specs.Line.{line, non_empty, sound_line}
+use Rattle.digits.specs.Line.{line, line_end, non_empty, sound_line}
 use Rattle.digits.specs.Inner.{byte_at}
 use Rattle.digits.proofs.Pairs.{bytes_at, bytes_none, bytes_count}
-use Rattle.lines.specs.Inner.{EndsAt}
 use Rattle.lines.proofs.Ends.{line_ends}
-use Rattle.frames.specs.declared.Parsed.{Parsed}
-use Rattle.frames.specs.declared.Parsed.TheVariants.{NoBytes, NoFrame}
-use Rattle.frames.specs.Frame.{of_three, of_four, frame_of, parse}
+use Rattle.frames.specs.Frame.{Parsed, of_three, of_four, frame_of, parse}
 use Rattle.frames.specs.Check.{parsed_lines}
 use Rattle.parsing.specs.Inner.{FoundAt}
 
 -- ---- a line of pairs of digits
 pub of_six : (l : List ℕ) → length l ≡ 6 → of_three (byte_at l 0) (byte_at l 2) (byte_at l 4) ≡ frame_of (to_bytes l)
 unfolding frame_of
-of_six l e =
-    ap frame_of
-    (sym
-    (bytes_at l 0 (omega arith)
-    ∙ ap (λ (t : List ℕ). byte_at l 0 ∷ t)
-    (bytes_at l 2 (omega arith)
-    ∙ ap (λ (t : List ℕ). byte_at l 2 ∷ t)
-    (bytes_at l 4 (omega arith) ∙ ap (λ (t : List ℕ). byte_at l 4 ∷ t) (bytes_none l 6 (omega arith))))))
+of_six l e = rw (bytes_at l 0 (omega arith), bytes_at l 2 (omega arith), bytes_at l 4 (omega arith), bytes_none l 6 (omega arith))
 
 pub of_eight : (l : List ℕ) → length l ≡ 8 → of_four (byte_at l 0) (byte_at l 2) (byte_at l 4) (byte_at l 6) ≡ frame_of (to_bytes l)
 unfolding frame_of
 of_eight l e =
-    ap frame_of
-    (sym
-    (bytes_at l 0 (omega arith)
-    ∙ ap (λ (t : List ℕ). byte_at l 0 ∷ t)
-    (bytes_at l 2 (omega arith)
-    ∙ ap (λ (t : List ℕ). byte_at l 2 ∷ t)
-    (bytes_at l 4 (omega arith)
-    ∙ ap (λ (t : List ℕ). byte_at l 4 ∷ t)
-    (bytes_at l 6 (omega arith) ∙ ap (λ (t : List ℕ). byte_at l 6 ∷ t) (bytes_none l 8 (omega arith)))))))
+    rw (bytes_at l 0 (omega arith), bytes_at l 2 (omega arith), bytes_at l 4 (omega arith), bytes_at l 6 (omega arith), bytes_none l 8 (omega arith))
 
-no_frame : (bs : List ℕ) → (length bs ≡ 3 → ⊥) → (length bs ≡ 4 → ⊥) → NoFrame ≡ frame_of bs
+no_frame : (bs : List ℕ) → (length bs ≡ 3 → ⊥) → (length bs ≡ 4 → ⊥) → Err NoFrame ≡ frame_of bs
 unfolding frame_of
 no_frame [] p q = refl
 no_frame (k ∷ []) p q = refl
@@ -52,7 +36,7 @@ no_frame (k ∷ a ∷ b ∷ []) p q = absurd (p refl)
 no_frame (k ∷ a ∷ b ∷ c ∷ []) p q = absurd (q refl)
 no_frame (k ∷ a ∷ b ∷ c ∷ d ∷ t) p q = refl
 
-pub of_other : (l : List ℕ) → digit_pairs l ≡ true → (length l ≡ 6 → ⊥) → (length l ≡ 8 → ⊥) → NoFrame ≡ frame_of (to_bytes l)
+pub of_other : (l : List ℕ) → digit_pairs l ≡ true → (length l ≡ 6 → ⊥) → (length l ≡ 8 → ⊥) → Err NoFrame ≡ frame_of (to_bytes l)
 of_other l e p q = no_frame (to_bytes l) (λ h. p (omega (arith, bytes_count l e))) (λ h. q (omega (arith, bytes_count l e)))
 
 -- ---- any line
@@ -66,22 +50,22 @@ unfolding non_empty
 some [] h = absurd (h refl)
 some (a ∷ t) h = refl
 
-unsound : (a b : Bool) (p : Parsed) → NoBytes ≡ cond (a && b && false) p NoBytes
+unsound : (a b : Bool) (p : Parsed) → Err NoBytes ≡ cond (a && b && false) p (Err NoBytes)
 unsound true true p = refl
 unsound true false p = refl
 unsound false b p = refl
 
 module _ (l : List ℕ) where
-  pub parse_unended : (e : Bool) → e ≡ false → NoBytes ≡ parse (line l e)
+  pub parse_unended : (e : Bool) → e ≡ false → Err NoBytes ≡ parse (line l e)
   unfolding parse sound_line
   parse_unended e p = simp p
 
-  pub parse_empty : (e : Bool) → length l ≡ 0 → NoBytes ≡ parse (line l e)
+  pub parse_empty : (e : Bool) → length l ≡ 0 → Err NoBytes ≡ parse (line l e)
   unfolding parse sound_line
   parse_empty true h = simp (empty l h)
   parse_empty false h = refl
 
-  pub parse_unpaired : (e : Bool) → digit_pairs l ≡ false → NoBytes ≡ parse (line l e)
+  pub parse_unpaired : (e : Bool) → digit_pairs l ≡ false → Err NoBytes ≡ parse (line l e)
   unfolding parse sound_line
   parse_unpaired e h = rw h (unsound e (non_empty l) (frame_of (to_bytes l)))
 
@@ -89,13 +73,15 @@ module _ (l : List ℕ) where
   unfolding parse sound_line
   parse_pairs e p h q = simp (p, some l h, q)
 
+pub ruleset line_laws = (parse_unended, parse_empty, parse_unpaired, parse_pairs)
+
 -- ---- the line that starts at p, by where it ends
-pub line_found : (t : List ℕ) (p e : ℕ) (x : Parsed) → p < length t → EndsAt t p e →
+pub line_found : (t : List ℕ) (p e : ℕ) (x : Parsed) → p < length t → e ≡ p + line_end (drop p t) 1 → e ≤ length t →
     x ≡ parse (line (take (e - p) (drop p t)) (ltb e (length t))) → FoundAt t p (record { parsed = x; next = e + 1 })
 unfolding parsed_lines
-line_found t p e x more ends is =
+line_found t p e x more ends near is =
     record {
-      onward = omega (arith, ends.after);
-      near = omega (arith, ends.within);
+      onward = omega arith;
+      near = omega arith;
       first = ap (map parse) (line_ends t p e more ends) ∙ ap (λ (y : Parsed). y ∷ parsed_lines (drop (e + 1) t)) (sym is);
     }

@@ -8,11 +8,10 @@ use borrow.Author.Tests.{ltb-false}
 use Rattle.tables.specs.Sheet.{Sheet, counts}
 use Rattle.frames.specs.declared.Frame.{Frame}
 use Rattle.frames.specs.declared.Frame.TheVariants.{Header, Assign, Permit, Separate, End}
-use Rattle.frames.specs.declared.Parsed.{Parsed}
-use Rattle.frames.specs.declared.Parsed.TheVariants.{NoBytes, NoFrame, Good}
+use Rattle.std.specs.Prelude.{Ok, Err}
+use Rattle.frames.specs.Frame.{Parsed}
 use Rattle.frames.specs.declared.Passed.{Passed}
-use Rattle.frames.specs.declared.CheckedText.TheVariants.{Accepted}
-use Rattle.frames.specs.Check.{start, next, next_line, misplaced, check, frames_of}
+use Rattle.frames.specs.Check.{start, next, next_line, misplaced, Accepted, check, frames_of}
 use Rattle.frames.proofs.Checks.{Fine, fine_of, line_passed}
 use Rattle.checking.specs.Inner.{after_lines}
 use Rattle.text.specs.Content.{blank, add, add_all, content_of}
@@ -42,10 +41,9 @@ module _ (k : Passed) (t : Sheet) (c : Counted k t) where
 counted_all : (ps : List Parsed) (k : Passed) (t : Sheet) → Counted k t → check k ps ≡ Accepted → Counted (after_lines k ps) (add_all t (frames_of ps))
 unfolding after_lines add_all frames_of next_line
 counted_all [] k t c h = c
-counted_all (NoBytes ∷ ps) k t c h = counted_all ps k t c (line_passed k NoBytes ps h).1
-counted_all (NoFrame ∷ ps) k t c h = counted_all ps k t c (line_passed k NoFrame ps h).1
-counted_all (Good f ∷ ps) k t c h =
-    let x = line_passed k (Good f) ps h in
+counted_all (Err why ∷ ps) k t c h = counted_all ps k t c (line_passed k (Err why) ps h).1
+counted_all (Ok f ∷ ps) k t c h =
+    let x = line_passed k (Ok f) ps h in
     counted_all ps (next k f) (add t f) (counted_next k t c f (fine_of k f x.0)) x.1
 
 at_start : Counted start (blank (counts 0 0 0))

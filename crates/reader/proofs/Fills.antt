@@ -1,29 +1,28 @@
 -- The second pass, turn by turn: the tables hold what was read, and the rest of the text adds up to what the whole text says.
 use Prim.Native.Nat.{ℕ, ◌+◌, ◌-◌, ◌≤◌, ◌<◌, ◌^◌}
 use mathlib.Core.Path.{◌≡◌, ap, refl, sym, subst, ◌∙◌}
-use mathlib.Core.List.{List, [], ◌∷◌, ◌++◌}
+use mathlib.Core.List.{List, ◌∷◌, ◌++◌}
 use native.Mathlib.Omega.{arith}
 use lib.ListN.{length, take, drop, take-append-drop, drop_of_length-le}
 use lib.Seq.{drop-drop, length-take-le}
 use borrow.Author.Tests.{ltb-false}
+use Rattle.std.specs.Prelude.{Ok, Err}
+use Rattle.answers.specs.declared.refused.Refused.{Refused as Why}
 use Rattle.answers.specs.Rows.{over}
-use Rattle.answers.specs.Call.{first_refusal}
 use Rattle.tables.specs.Sheet.{Sheet, sheet_of}
 use Rattle.digits.specs.Line.{lines}
 use Rattle.frames.specs.declared.Frame.{Frame}
 use Rattle.frames.specs.declared.Frame.TheVariants.{Header, Assign, Permit, Separate, End}
-use Rattle.frames.specs.declared.Parsed.{Parsed}
-use Rattle.frames.specs.declared.Parsed.TheVariants.{NoBytes, NoFrame, Good}
+use Rattle.frames.specs.Frame.{Parsed}
 use Rattle.frames.specs.declared.Passed.{Passed}
-use Rattle.frames.specs.declared.CheckedText.TheVariants.{Accepted}
-use Rattle.frames.specs.Check.{start, next, next_line, misplaced, line_refusals, check, parsed_lines, frames_of}
-use Rattle.frames.proofs.Checks.{Fine, fine_of, line_passed}
+use Rattle.frames.specs.Check.{start, next, misplaced, Accepted, check, parsed_lines, frames_of}
+use Rattle.frames.proofs.Checks.{Fine, of_fine, line_passed, frame_passed, err_refused}
 use Rattle.frames.proofs.Ranges.{header_fits, separate_room}
 use Rattle.parsing.specs.declared.Found.{Found}
 use Rattle.parsing.specs.Inner.{FoundAt}
 use Rattle.text.specs.Content.{blank, add_all, content_of}
 use Rattle.reader.specs.Fill.{Tables, LongTables, TablesFilled}
-use Rattle.reader.specs.Inner.{held, assignment_used, permission_used, separations_used, Within, Passes, LineStored}
+use Rattle.reader.specs.Inner.{held, assignment_used, permission_used, separations_used, Within, Passes, FrameStored}
 use Rattle.reader.proofs.Stores.{assignment_room, permission_room}
 
 -- b are the tables at the place i of the text t, and b₀ as they were lent
@@ -96,36 +95,11 @@ module _ (k : Passed) (w : Within k) where
   within_frame (End v l) p =
       record { counts_fit = w.counts_fit; separations = w.separations; fresh = λ z. absurd (omega arith) }
 
-  module _ (x : Parsed) (fine : first_refusal (line_refusals k x) ≡ 0) where
-    grows_line : Grows k (next_line k x)
-    unfolding next_line
-    grows_line = go x fine
-      where
-        go : (y : Parsed) → first_refusal (line_refusals k y) ≡ 0 → Grows k (next_line k y)
-        go NoBytes h = record { assignment = omega arith; permission = omega arith; separations = omega arith; one_more = omega arith }
-        go NoFrame h = record { assignment = omega arith; permission = omega arith; separations = omega arith; one_more = omega arith }
-        go (Good f) h = grows_frame f (fine_of k f h)
-
-    within_line : Within (next_line k x)
-    unfolding next_line
-    within_line = go x fine
-      where
-        go : (y : Parsed) → first_refusal (line_refusals k y) ≡ 0 → Within (next_line k y)
-        go NoBytes h = w
-        go NoFrame h = w
-        go (Good f) h = within_frame f (fine_of k f h)
-
 -- ---- one turn
 drop_further : (m n : ℕ) (a b : List ℕ) → m ≤ n → drop m a ≡ drop m b → drop n a ≡ drop n b
 drop_further m n a b h e =
     let s : m + (n - m) ≡ n = omega arith in
     ap (λ (i : ℕ). drop i a) (sym s) ∙ sym (drop-drop (n - m) m a) ∙ ap (drop (n - m)) e ∙ drop-drop (n - m) m b ∙ ap (λ (i : ℕ). drop i b) s
-
-add_first : (t : Sheet) (x : Parsed) (ps : List Parsed) → add_all (add_all t (frames_of (x ∷ []))) (frames_of ps) ≡ add_all t (frames_of (x ∷ ps))
-unfolding add_all frames_of
-add_first t NoBytes ps = refl
-add_first t NoFrame ps = refl
-add_first t (Good f) ps = refl
 
 kept : (n : ℕ) (a b : List ℕ) → n ≤ length a → drop n a ≡ drop n b → a ≡ over (take n a) b
 unfolding over
@@ -144,35 +118,43 @@ parts_kept t b₀ b k i s long =
     }
 
 module _ (t : List ℕ) (b₀ b : Tables) (k : Passed) (i : ℕ) (s : Filling t b₀ b k i) where
-  module _ (found : Found) (here : FoundAt t i found) where
-    at_line : (first_refusal (line_refusals k found.parsed) ≡ 0) × (check (next_line k found.parsed) (parsed_lines (drop found.next t)) ≡ Accepted)
-    at_line = line_passed k found.parsed (parsed_lines (drop found.next t)) (ap (check k) (sym here.first) ∙ s.left)
+  -- each line of an accepted text is a frame
+  pub no_other_line : (found : Found) (why : Why) → FoundAt t i found → found.parsed ≡ Err why → ⊥
+  no_other_line found why here e =
+      err_refused k why
+      (rw e at (line_passed k found.parsed (parsed_lines (drop found.next t)) (ap (check k) (sym here.first) ∙ s.left)).0)
 
-    pub line_passes : i < length t → length t < 2 ^ 63 → Passes k found.parsed
-    line_passes more short = record { within = s.within; few_lines = omega (arith, s.few_lines); fine = at_line.0 }
+  module _ (found : Found) (here : FoundAt t i found) (f : Frame) (is : found.parsed ≡ Ok f) where
+    lines_on : parsed_lines (drop i t) ≡ Ok f ∷ parsed_lines (drop found.next t)
+    lines_on = here.first ∙ rw is
 
-    pub filling_next : (m : Passed) (b' : Tables) → LineStored k found.parsed m b b' →
+    at_line : Fine k f × (check (next k f) (parsed_lines (drop found.next t)) ≡ Accepted)
+    at_line = frame_passed k f (parsed_lines (drop found.next t)) (ap (check k) (sym lines_on) ∙ s.left)
+
+    pub line_passes : i < length t → length t < 2 ^ 63 → Passes k f
+    line_passes more short = record { within = s.within; few_lines = omega (arith, s.few_lines); fine = of_fine k f at_line.0 }
+
+    pub filling_next : (m : Passed) (b' : Tables) → m ≡ next k f → FrameStored k f b b' →
         length b'.assignment ≡ length b.assignment → length b'.permission ≡ length b.permission → length b'.separations ≡ length b.separations →
         Filling t b₀ b' m found.next
-    filling_next m b' w la lp lq =
-        let x : Parsed = found.parsed in
+    unfolding add_all frames_of
+    filling_next m b' known w la lp lq =
         let rest : List Parsed = parsed_lines (drop found.next t) in
-        let g = grows_line k s.within x at_line.0 in
-        subst (λ (z : Passed). Filling t b₀ b' z found.next) (sym w.known)
+        let g = grows_frame k s.within f at_line.0 in
+        subst (λ (z : Passed). Filling t b₀ b' z found.next) (sym known)
         (record {
           left = at_line.1;
           said =
-              ap (λ (u : Sheet). add_all u (frames_of rest)) w.holds.content
-              ∙ add_first (held k b) x rest
-              ∙ ap (λ (l : List Parsed). add_all (held k b) (frames_of l)) (sym here.first)
+              ap (λ (u : Sheet). add_all u (frames_of rest)) w.content
+              ∙ ap (λ (l : List Parsed). add_all (held k b) (frames_of l)) (sym lines_on)
               ∙ s.said;
-          assignment_past = w.holds.assignment_past ∙ drop_further _ _ _ _ g.assignment s.assignment_past;
-          permission_past = w.holds.permission_past ∙ drop_further _ _ _ _ g.permission s.permission_past;
-          separations_past = w.holds.separations_past ∙ drop_further _ _ _ _ g.separations s.separations_past;
+          assignment_past = w.assignment_past ∙ drop_further _ _ _ _ g.assignment s.assignment_past;
+          permission_past = w.permission_past ∙ drop_further _ _ _ _ g.permission s.permission_past;
+          separations_past = w.separations_past ∙ drop_further _ _ _ _ g.separations s.separations_past;
           assignment_length = la ∙ s.assignment_length;
           permission_length = lp ∙ s.permission_length;
           separations_length = lq ∙ s.separations_length;
-          within = within_line k s.within x at_line.0;
+          within = within_frame k s.within f at_line.0;
           few_lines = omega (arith, g.one_more, s.few_lines, here.onward);
           near = here.near;
         })

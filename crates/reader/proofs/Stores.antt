@@ -12,15 +12,13 @@ use Rattle.answers.proofs.Products.{product_within}
 use Rattle.tables.specs.Sheet.{lent, sheet_of, counts, sheet}
 use Rattle.frames.specs.declared.Frame.{Frame}
 use Rattle.frames.specs.declared.Frame.TheVariants.{Header, Assign, Permit, Separate, End}
-use Rattle.frames.specs.declared.Parsed.{Parsed}
-use Rattle.frames.specs.declared.Parsed.TheVariants.{NoBytes, NoFrame, Good}
 use Rattle.frames.specs.declared.Passed.{Passed}
-use Rattle.frames.specs.Check.{start, next, next_line, misplaced, frames_of}
+use Rattle.frames.specs.Check.{start, next, misplaced}
 use Rattle.frames.proofs.Checks.{fine_of}
 use Rattle.frames.proofs.Ranges.{assign_range, permit_range, separate_room as room-left, header_fits as counts_fit}
-use Rattle.text.specs.Content.{blank, add, add_all}
-use Rattle.reader.specs.Fill.{Tables, tables}
-use Rattle.reader.specs.Inner.{assignment_used, permission_used, separations_used, Within, Passes, FrameStored, LineStored}
+use Rattle.text.specs.Content.{blank, add}
+use Rattle.reader.specs.Fill.{tables}
+use Rattle.reader.specs.Inner.{assignment_used, permission_used, separations_used, Within, Passes, FrameStored}
 
 -- ---- the used parts are within the least lengths
 pub assignment_room : (k : Passed) → Within k → assignment_used k ≤ 2304
@@ -30,7 +28,7 @@ pub permission_room : (k : Passed) → Within k → permission_used k ≤ 3072
 permission_room k w = product_within _ _ 48 64 3072 w.counts_fit.roles w.counts_fit.objects (omega arith)
 
 -- ---- the place of a frame that passes
-module _ (k : Passed) (f : Frame) (h : Passes k (Good f)) where
+module _ (k : Passed) (f : Frame) (h : Passes k f) where
   pub header_fits : (s o r : ℕ) → f ≡ Header s o r → (s * r ≤ 2304) × (r * o ≤ 3072)
   header_fits s o r e =
       let x = (counts_fit s o r).0 (rw e at (fine_of k f h.fine).not_oversized) in
@@ -66,7 +64,7 @@ blank_held : (s o r n : ℕ) (a p q : List ℕ) → take (s * r) a ≡ replicate
 unfolding sheet_of blank
 blank_held s o r n a p q ea ep en = rw (ea, ep, en)
 
-module _ (k : Passed) (f : Frame) (h : Passes k (Good f)) (a p q : List ℕ) where
+module _ (k : Passed) (f : Frame) (h : Passes k f) (a p q : List ℕ) where
   pub header_stored : (s o r : ℕ) → f ≡ Header s o r →
       FrameStored k f (tables a p q) (tables (replicate (s * r) 0 ++ drop (s * r) a) (replicate (r * o) 0 ++ drop (r * o) p) q)
   unfolding next add
@@ -131,21 +129,3 @@ module _ (k : Passed) (f : Frame) (h : Passes k (Good f)) (a p q : List ℕ) whe
   end_stored v l e =
       subst (λ (g : Frame). FrameStored k g (tables a p q) (tables a p q)) (sym e)
       (record { content = refl; assignment_past = refl; permission_past = refl; separations_past = refl })
-
--- ---- a line that is no frame says nothing, and one that is a frame says that frame
-module _ (k : Passed) (x : Parsed) (t : Tables) where
-  pub no_bytes_stored : x ≡ NoBytes → LineStored k x k t t
-  unfolding next_line add_all frames_of
-  no_bytes_stored e =
-      subst (λ (y : Parsed). LineStored k y k t t) (sym e)
-      (record { known = refl; holds = record { content = refl; assignment_past = refl; permission_past = refl; separations_past = refl } })
-
-  pub no_frame_stored : x ≡ NoFrame → LineStored k x k t t
-  unfolding next_line add_all frames_of
-  no_frame_stored e =
-      subst (λ (y : Parsed). LineStored k y k t t) (sym e)
-      (record { known = refl; holds = record { content = refl; assignment_past = refl; permission_past = refl; separations_past = refl } })
-
-  pub frame_stored : (f : Frame) (m : Passed) (t' : Tables) → x ≡ Good f → m ≡ next k f → FrameStored k f t t' → LineStored k x m t t'
-  unfolding next_line add_all frames_of
-  frame_stored f m t' e em w = subst (λ (y : Parsed). LineStored k y m t t') (sym e) (record { known = em; holds = w })

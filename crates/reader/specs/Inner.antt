@@ -1,13 +1,12 @@
 -- What the functions of the second pass tell each other. No promise: it only ties functions together.
-use Rattle.std.specs.Prelude.{ℕ, ◌*◌, ◌^◌, ◌≤◌, ◌<◌, ◌≡◌, [], ◌∷◌, drop}
+use Rattle.std.specs.Prelude.{ℕ, ◌*◌, ◌^◌, ◌≤◌, ◌<◌, ◌≡◌, Ok, drop}
 use Rattle.answers.specs.Call.{first_refusal}
 use Rattle.answers.specs.Sizes.{most_separations}
 use Rattle.tables.specs.Sheet.{CountsFit, Sheet, lent, sheet_of}
 use Rattle.frames.specs.declared.Frame.{Frame}
-use Rattle.frames.specs.declared.Parsed.{Parsed}
 use Rattle.frames.specs.declared.Passed.{Passed}
-use Rattle.frames.specs.Check.{start, next, next_line, line_refusals, frames_of}
-use Rattle.text.specs.Content.{add, add_all}
+use Rattle.frames.specs.Check.{start, next, line_refusals}
+use Rattle.text.specs.Content.{add}
 use Rattle.reader.specs.Fill.{Tables}
 
 -- the sheet that tables hold in the parts that k uses
@@ -30,11 +29,11 @@ pub record Within (k : Passed) : Type 0 where
   pub separations : k.separations ≤ most_separations
   pub fresh : k.lines ≡ 0 → k ≡ start
 
--- a line that passes after those of which k is known, few enough to be counted on
-pub record Passes (k : Passed) (line : Parsed) : Type 0 where
+-- a frame that passes after the lines of which k is known, few enough to be counted on
+pub record Passes (k : Passed) (f : Frame) : Type 0 where
   pub within : Within k
   pub few_lines : k.lines < 2 ^ 63
-  pub fine : first_refusal (line_refusals k line) ≡ 0
+  pub fine : first_refusal (line_refusals k (Ok f)) ≡ 0
 
 -- the tables came to hold `said` in the parts that k uses, and nothing past them changed
 pub record Holds (k : Passed) (said : Sheet) (before after : Tables) : Type 0 where
@@ -46,8 +45,3 @@ pub record Holds (k : Passed) (said : Sheet) (before after : Tables) : Type 0 wh
 -- a frame was stored
 abbrev pub FrameStored : Passed → Frame → Tables → Tables → Type 0
 FrameStored k f before = Holds (next k f) (add (held k before) f) before
-
--- a line was stored, and k' is known after it
-pub record LineStored (k : Passed) (line : Parsed) (k' : Passed) (before after : Tables) : Type 0 where
-  pub known : k' ≡ next_line k line
-  pub holds : Holds (next_line k line) (add_all (held k before) (frames_of (line ∷ []))) before after

@@ -7,15 +7,14 @@ use native.Mathlib.Omega.{arith}
 use lib.Arith.{digits_div, digits_mod}
 use lib.ListN.{length, length-append}
 use borrow.Author.Tests.{ltb-false}
+use Rattle.std.specs.Prelude.{Ok}
 use Rattle.tables.specs.Sheet.{Sheet, Sound, counts}
 use Rattle.digits.proofs.Digits.{Bytes}
 use Rattle.frames.specs.declared.Frame.{Frame}
 use Rattle.frames.specs.declared.Frame.TheVariants.{Header, Assign, Permit, Separate, End}
-use Rattle.frames.specs.declared.Parsed.TheVariants.{Good}
 use Rattle.frames.specs.declared.Passed.{Passed}
-use Rattle.frames.specs.declared.CheckedText.TheVariants.{Accepted}
 use Rattle.frames.specs.Frame.{frame_bytes, key}
-use Rattle.frames.specs.Check.{passed, start, next, misplaced, check}
+use Rattle.frames.specs.Check.{passed, start, next, misplaced, check, Accepted}
 use Rattle.frames.proofs.Frames.{FrameBytes}
 use Rattle.frames.proofs.Checks.{Fine, frame_passed, end_lacks, nothing_after}
 use Rattle.frames.proofs.Ranges.{header_fits, assign_range, permit_range, separate_range, separate_room, end_count}
@@ -107,32 +106,32 @@ pub record Whole (fs : List Frame) (t : Sheet) : Type 0 where
 whole_more : (fs gs : List Frame) (f : Frame) (t : Sheet) → Whole ((fs ++ (f ∷ [])) ++ gs) t → Whole (fs ++ (f ∷ gs)) t
 whole_more fs gs f t w = rw append_assoc at w
 
-grown : (gs fs : List Frame) (k : Passed) (t : Sheet) → Built fs k t → FrameBytes gs → check k (map Good gs) ≡ Accepted →
+grown : (gs fs : List Frame) (k : Passed) (t : Sheet) → Built fs k t → FrameBytes gs → check k (map Ok gs) ≡ Accepted →
     Whole (fs ++ gs) (add_all t gs)
 unfolding FrameBytes Bytes frame_bytes add_all next add
 grown [] fs k t b y h = absurd (end_lacks k b.going h)
-grown (Header s o r ∷ gs) fs k t b y h = absurd (late_header fs k t b s o r (frame_passed k (Header s o r) (map Good gs) h).0)
+grown (Header s o r ∷ gs) fs k t b y h = absurd (late_header fs k t b s o r (frame_passed k (Header s o r) (map Ok gs) h).0)
 grown (Assign s r ∷ gs) fs k t b y h =
-    let x = frame_passed k (Assign s r) (map Good gs) h in
+    let x = frame_passed k (Assign s r) (map Ok gs) h in
     whole_more fs gs _ _ (grown gs _ _ _ (built_assign fs k t b s r x.0) y.1 x.1)
 grown (Permit r o m ∷ gs) fs k t b y h =
-    let x = frame_passed k (Permit r o m) (map Good gs) h in
+    let x = frame_passed k (Permit r o m) (map Ok gs) h in
     whole_more fs gs _ _ (grown gs _ _ _ (built_permit fs k t b r o m x.0) y.1 x.1)
 grown (Separate v w ∷ gs) fs k t b y h =
-    let x = frame_passed k (Separate v w) (map Good gs) h in
+    let x = frame_passed k (Separate v w) (map Ok gs) h in
     whole_more fs gs _ _ (grown gs _ _ _ (built_separate fs k t b v w x.0) y.1 x.1)
 grown (End v l ∷ []) fs k t b y h =
     record { frames = right_end fs k t b v l (frame_passed k (End v l) [] h).0 y.0.1.1.0; sound = b.sound }
 grown (End v l ∷ f ∷ gs) fs k t b y h =
-    absurd (nothing_after (next k (End v l)) f (map Good gs) refl (frame_passed k (End v l) (map Good (f ∷ gs)) h).1)
+    absurd (nothing_after (next k (End v l)) f (map Ok gs) refl (frame_passed k (End v l) (map Ok (f ∷ gs)) h).1)
 
-pub read_back : (fs : List Frame) → FrameBytes fs → check start (map Good fs) ≡ Accepted → Whole fs (content_of fs)
+pub read_back : (fs : List Frame) → FrameBytes fs → check start (map Ok fs) ≡ Accepted → Whole fs (content_of fs)
 unfolding FrameBytes content_of add_all add start misplaced
 read_back [] y h = absurd (end_lacks start refl h)
 read_back (Header s o r ∷ gs) y h =
-    let x = frame_passed start (Header s o r) (map Good gs) h in
+    let x = frame_passed start (Header s o r) (map Ok gs) h in
     grown gs (Header s o r ∷ []) _ _ (built_header s o r x.0) y.1 x.1
-read_back (Assign s r ∷ gs) y h = absurd (true≢false (frame_passed start (Assign s r) (map Good gs) h).0.in_place)
-read_back (Permit r o m ∷ gs) y h = absurd (true≢false (frame_passed start (Permit r o m) (map Good gs) h).0.in_place)
-read_back (Separate v w ∷ gs) y h = absurd (true≢false (frame_passed start (Separate v w) (map Good gs) h).0.in_place)
-read_back (End v l ∷ gs) y h = absurd (true≢false (frame_passed start (End v l) (map Good gs) h).0.in_place)
+read_back (Assign s r ∷ gs) y h = absurd (true≢false (frame_passed start (Assign s r) (map Ok gs) h).0.in_place)
+read_back (Permit r o m ∷ gs) y h = absurd (true≢false (frame_passed start (Permit r o m) (map Ok gs) h).0.in_place)
+read_back (Separate v w ∷ gs) y h = absurd (true≢false (frame_passed start (Separate v w) (map Ok gs) h).0.in_place)
+read_back (End v l ∷ gs) y h = absurd (true≢false (frame_passed start (End v l) (map Ok gs) h).0.in_place)

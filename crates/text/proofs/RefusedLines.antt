@@ -13,12 +13,9 @@ use Rattle.answers.specs.Call.{first_refusal}
 use Rattle.answers.specs.Rows.{exceeds}
 use Rattle.answers.specs.Sizes.{most_text}
 use Rattle.digits.specs.Line.{Line, line, feed, joined, lines}
-use Rattle.frames.specs.declared.Parsed.{Parsed}
 use Rattle.frames.specs.declared.Passed.{Passed}
-use Rattle.frames.specs.declared.CheckedText.{CheckedText}
-use Rattle.frames.specs.declared.CheckedText.TheVariants.{Refused, Accepted}
-use Rattle.frames.specs.Frame.{parse}
-use Rattle.frames.specs.Check.{start, line_refusals, next_line, check, parsed_lines, frames_of}
+use Rattle.frames.specs.Frame.{parse, Parsed}
+use Rattle.frames.specs.Check.{start, line_refusals, next_line, check, parsed_lines, frames_of, CheckedText, Refused, Accepted}
 use Rattle.frames.proofs.Checks.{check_go, check_stop, more_lines}
 use Rattle.text.specs.Content.{content_of}
 use Rattle.text.specs.Reading.{refused, read_by, read_lines, read_text}

@@ -8,14 +8,12 @@ use mathlib.Core.List.{List, map}
 use native.Mathlib.Omega.{arith}
 use lib.ListN.{length}
 use borrow.Author.Tests.{le-ltb}
+use Rattle.std.specs.Prelude.{Ok}
 use Rattle.answers.specs.Sizes.{most_text}
 use Rattle.answers.specs.Rows.{exceeds}
 use Rattle.tables.specs.Sheet.{Sheet, Sound}
-use Rattle.frames.specs.declared.Parsed.TheVariants.{Good}
-use Rattle.frames.specs.declared.CheckedText.{CheckedText}
-use Rattle.frames.specs.declared.CheckedText.TheVariants.{Refused, Accepted}
 use Rattle.frames.specs.Frame.{text_of}
-use Rattle.frames.specs.Check.{start, check, parsed_lines, frames_of}
+use Rattle.frames.specs.Check.{start, check, parsed_lines, frames_of, CheckedText, Refused, Accepted}
 use Rattle.frames.proofs.Frames.{text_written}
 use Rattle.frames.proofs.Checks.{accepted_frames, frames_again}
 use Rattle.text.specs.Content.{content_of, frames_in, write_sheet}
@@ -64,7 +62,7 @@ worked_written = read_write worked_text reads_worked
 pub write_read : {t : Sheet} → Sound t → read_text (write_sheet t) ≡ accepted t
 unfolding read_text read_lines read_by write_sheet
 write_read {t} p =
-    let g : parsed_lines (text_of (frames_in t)) ≡ map Good (frames_in t) = text_written (frames_in t) (frames_bytes t p) in
+    let g : parsed_lines (text_of (frames_in t)) ≡ map Ok (frames_in t) = text_written (frames_in t) (frames_bytes t p) in
     rw (le-ltb most_text (length (text_of (frames_in t))) (text_fits t p), g, frames_pass t p, frames_again (frames_in t), content_back t p)
 
 worked_read : read_text (write_sheet worked) ≡ accepted worked

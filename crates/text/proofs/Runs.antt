@@ -8,16 +8,15 @@ use native.Mathlib.Omega.{arith}
 use lib.Dec.{eqb}
 use lib.ListN.{length}
 use borrow.Author.Tests.{ne_eqb}
+use Rattle.std.specs.Prelude.{Ok}
 use Rattle.tables.specs.declared.Counts.{Counts}
 use Rattle.tables.specs.Sheet.{entities}
 use Rattle.answers.specs.Sizes.{most_separations}
 use Rattle.frames.specs.declared.Frame.{Frame}
 use Rattle.frames.specs.declared.Frame.TheVariants.{Assign, Permit, Separate}
-use Rattle.frames.specs.declared.Parsed.TheVariants.{Good}
 use Rattle.frames.specs.declared.Passed.{Passed}
-use Rattle.frames.specs.declared.CheckedText.TheVariants.{Accepted}
 use Rattle.frames.specs.Frame.{key}
-use Rattle.frames.specs.Check.{passed, next, misplaced, oversized, out_of_range, too_many, miscounted, check}
+use Rattle.frames.specs.Check.{passed, next, misplaced, oversized, out_of_range, too_many, miscounted, check, Accepted}
 use Rattle.frames.proofs.Checks.{Fine, frame_passes}
 use Rattle.frames.proofs.Ranges.{assign_range, permit_range, separate_range, separate_room, end_count}
 use Rattle.text.specs.Content.{closing}
@@ -93,7 +92,7 @@ end_passes k n = refl
 
 pub run_passes : {c : Counts} {lo hi m : ℕ} {fs : List Frame} → Run c lo hi m fs → (k : Passed) (n : ℕ) → Begun k c →
     k.last < lo → hi ≤ line_key 5 0 0 → k.separations + m ≤ most_separations → k.lines + length fs ≡ n →
-    check k (map Good (fs ++ (closing n ∷ []))) ≡ Accepted
+    check k (map Ok (fs ++ (closing n ∷ []))) ≡ Accepted
 unfolding next
 run_passes {c} (none l) k n q up top room size =
     frame_passes k (closing n) [] (fine_closing k c q n (omega arith) (omega arith)) (end_passes k n)

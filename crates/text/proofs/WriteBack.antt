@@ -4,14 +4,13 @@ use mathlib.Core.Path.{◌≡◌, ap₂, refl}
 use mathlib.Core.List.{List, [], ◌∷◌, map}
 use native.Mathlib.Omega.{arith}
 use lib.ListN.{length, get_or}
+use Rattle.std.specs.Prelude.{Ok}
 use Rattle.tables.specs.declared.Counts.{Counts}
 use Rattle.tables.specs.Sheet.{Sheet, Sound, entities, from, to, pair_key, separation_key}
 use Rattle.frames.specs.declared.Frame.{Frame}
 use Rattle.frames.specs.declared.Frame.TheVariants.{Header}
-use Rattle.frames.specs.declared.Parsed.TheVariants.{Good}
-use Rattle.frames.specs.declared.CheckedText.TheVariants.{Accepted}
 use Rattle.frames.specs.Frame.{key}
-use Rattle.frames.specs.Check.{start, next, misplaced, out_of_range, too_many, miscounted, check}
+use Rattle.frames.specs.Check.{start, next, misplaced, out_of_range, too_many, miscounted, check, Accepted}
 use Rattle.frames.proofs.Checks.{Fine, frame_passes}
 use Rattle.frames.proofs.Ranges.{header_fits}
 use Rattle.text.specs.Content.{present, assign_at, permit_at, separates as separateFrames, body, opened, frames_in}
@@ -116,7 +115,7 @@ module _ (t : Sheet) (p : Sound t) where
         well_counted = refl;
       }
 
-  pub frames_pass : check start (map Good (frames_in t)) ≡ Accepted
+  pub frames_pass : check start (map Ok (frames_in t)) ≡ Accepted
   unfolding frames_in opened next start key
   frames_pass =
       frame_passes start (Header S O R) _ fine_header

@@ -3,9 +3,7 @@ use Rattle.std.specs.Prelude.{ℕ, cond, List, length}
 use Rattle.answers.specs.Sizes.{most_text}
 use Rattle.answers.specs.Rows.{exceeds}
 use Rattle.tables.specs.Sheet.{Sheet}
-use Rattle.frames.specs.declared.CheckedText.{CheckedText}
-use Rattle.frames.specs.declared.CheckedText.TheVariants.{Refused, Accepted}
-use Rattle.frames.specs.Check.{start, check, parsed_lines, frames_of}
+use Rattle.frames.specs.Check.{start, check, parsed_lines, frames_of, CheckedText, Refused, Accepted}
 use Rattle.text.specs.Content.{content_of}
 
 -- a refusal by its number and its line, or a sheet

@@ -1,4 +1,4 @@
--- `checking::check_text` meets its contract: what is left of the text, read on from what is known, comes to what the whole text comes to. Assumes nothing.
+-- `checking::check_text` meets its contract: what is left of the text, read on from what is known, comes to what the whole text comes to.
 use Prim.Native.Nat.{◌+◌, ◌-◌}
 use lib.ListN.{length}
 use Rattle.checking.proofs.Turns.{Checking}

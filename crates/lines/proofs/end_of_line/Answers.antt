@@ -1,28 +1,17 @@
--- `lines::end_of_line` meets its contract: no line feed was passed. Assumes nothing.
+-- `lines::end_of_line` meets its contract: the line ends at its line feed, or with the text.
 use native.Mathlib.Omega.{arith}
-use borrow.Author.Count.{below_more}
+use lib.ListN.{drop, length-drop}
+use Rattle.lines.proofs.Starts.{rest, feed_found, no_feed_found}
 use Rattle.lines.proofs.end_of_line.Goals as goal
 
-pub loop-i-init : goal.loop-i-init
-loop-i-init c = (omega arith, omega arith, λ k h l. absurd (omega arith))
+pub returns-in-Some : goal.returns-in-Some
+returns-in-Some c =
+    let t = c.args.text.now in
+    let x = feed_found (drop c.args.at t) _ (rw rest at c.in-Some.ensures) in
+    (omega arith, omega (arith, length-drop c.args.at t))
 
-pub returns-then-is_feed : goal.returns-then-is_feed
-returns-then-is_feed c =
-    record {
-      after = omega arith;
-      within = omega arith;
-      none = λ i h l. c.loop-i.invariant.2 i l h;
-      fed = λ h. c.if-is_feed.true;
-    }
-
-pub loop-i-preserved : goal.loop-i-preserved
-loop-i-preserved c = (omega arith, omega arith, below_more _ _ c.loop-i.invariant.2 (λ l. c.if-is_feed.false))
-
-pub returns : goal.returns
-returns c =
-    record {
-      after = omega arith;
-      within = omega arith;
-      none = λ i h l. c.loop-i.invariant.2 i l h;
-      fed = λ h. absurd (omega arith);
-    }
+pub returns-in-None : goal.returns-in-None
+returns-in-None c =
+    let t = c.args.text.now in
+    let x = no_feed_found (drop c.args.at t) (rw rest at c.in-None.ensures) in
+    (omega (arith, length-drop c.args.at t), omega arith)

@@ -5,11 +5,11 @@ use Rattle.lines.proofs.Places.{end_within, start_first}
 use Rattle.lines.proofs.Starts.{end_at}
 use Rattle.lines.proofs.line_end.Goals as goal
 
-pub end_from-requires : goal.end_from-requires
-end_from-requires c =
+pub end_of_line-requires : goal.end_of_line-requires
+end_of_line-requires c =
     let text = c.args.text.now in
     let number = c.args.line in
     omega (arith, end_within text number, start_first text number)
 
 pub returns : goal.returns
-returns c = c.end_from.ensures.0 ∙ rw c.line_start-at.ensures (sym (end_at c.args.text.now c.args.line))
+returns c = c.end_of_line.ensures.0 ∙ rw c.line_start-at.ensures (sym (end_at c.args.text.now c.args.line))

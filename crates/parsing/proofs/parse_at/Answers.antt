@@ -3,4 +3,4 @@ use Rattle.parsing.proofs.Parses.{line_found}
 use Rattle.parsing.proofs.parse_at.Goals as goal
 
 pub returns : goal.returns
-returns c = line_found _ _ _ _ c.requires c.end_of_line-e.ensures c.parse_line-parsed.ensures
+returns c = line_found _ _ _ _ c.requires c.end_of_line-end.ensures.0 c.end_of_line-end.ensures.1 c.parse_line-parsed.ensures

@@ -1,2 +1,0 @@
--- What the functions tell each other.
-pub mod Inner
