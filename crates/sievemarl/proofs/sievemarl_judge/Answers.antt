@@ -5,5 +5,8 @@ use Rattle.sievemarl.proofs.sievemarl_judge.Goals as goal
 
 pub pack-requires : goal.pack-requires
 pack-requires c =
-    let small = judged_small _ _ _ _ c.judge-judged.ensures in
-    (omega (arith, small.position), omega (arith, small.count))
+    let small = judged_small _ _ _ _ c.judge.ensures in
+    rw c.from-judged.ensures (omega (arith, small.position), omega (arith, small.count))
+
+pub returns : goal.returns
+returns c = record { judged = _; judges = c.judge.ensures; returned = rw c.from-judged.ensures at c.pack.ensures }
