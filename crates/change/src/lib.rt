@@ -8,7 +8,7 @@ ghost use Rattle.tables.specs.Sheet.{lent, lent_by};
 ghost use Rattle.change.specs.Change.{range_refusals, SetsAssignment, SetsPermission, change_refusals};
 
 use answers::refused::{Refused, first_refused};
-use tables::{Counts, Tables};
+use tables::{Counts, LentSheet};
 
 // A place in a table of `rows` rows of `columns` bytes, each at most `most`.
 #[derive(Clone, Copy)]
@@ -42,7 +42,7 @@ impl Cell {
 }
 
 // 1, 5, 11 or 6 of a change of a byte.
-fn check_change(sheet: Tables, cell: Cell, value: u8) -> Result<(), Refused>
+fn check_change(sheet: LentSheet, cell: Cell, value: u8) -> Result<(), Refused>
     ensures { code result ≡ first_refusal (change_refusals (lent_by sheet.entry) cell.rows cell.columns cell.most cell.row cell.column value) }
 {
     refusals::check_sheet(refusals::NO_OTHER, refusals::NO_LIST, sheet)?;
@@ -60,7 +60,7 @@ pub fn set_assignment(
 ) -> Result<(), Refused>
     ensures { SetsAssignment (lent counts assignment.old permission.now) s r value (code result, assignment.new) }
 {
-    let sheet = Tables {
+    let sheet = LentSheet {
         counts,
         assignment: &*assignment,
         permission,
@@ -88,7 +88,7 @@ pub fn set_permission(
 ) -> Result<(), Refused>
     ensures { SetsPermission (lent counts assignment.now permission.old) r o mode (code result, permission.new) }
 {
-    let sheet = Tables {
+    let sheet = LentSheet {
         counts,
         assignment,
         permission: &*permission,

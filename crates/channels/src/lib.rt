@@ -10,10 +10,10 @@ ghost use Rattle.access.specs.Channel.{Channel};
 ghost use Rattle.channels.specs.Inner.{Fillable};
 
 use permissions::Permissions;
-use tables::Tables;
+use tables::LentSheet;
 
 // Writes the channel table of a sheet: the byte at x * N + y is 1 where there is a channel from x to y, and 0 where there is none.
-pub fn fill_channels(sheet: Tables, channels: &mut [u8])
+pub fn fill_channels(sheet: LentSheet, channels: &mut [u8])
     requires { Fillable (lent_by sheet) channels.old }
     ensures { Filled (entities sheet.entry.counts) (Channel (sheet_in (lent_by sheet.entry))) channels.old channels.new }
 {

@@ -9,7 +9,7 @@ ghost use Rattle.channels.specs.Inner.{Lists};
 ghost use Rattle.channels.specs.Mode.{mode_of};
 
 use crate::roles::RoleList;
-use tables::Tables;
+use tables::LentSheet;
 
 const BOTH: u8 = 3;
 
@@ -30,7 +30,7 @@ fn has(mode: u8, wanted: Wanted) -> bool
 // A sheet's tables, and the roles of each subject, so that a pair is asked for these and for no others.
 #[derive(Clone, Copy)]
 pub struct Permissions<'a> {
-    pub sheet: Tables<'a>,
+    pub sheet: LentSheet<'a>,
     pub lists: &'a [RoleList],
     ghost sized: { Sized (lent_by sheet) },
     ghost long: { sheet.counts.subjects ≤ length lists.now },

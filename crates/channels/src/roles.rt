@@ -6,7 +6,7 @@ ghost use Rattle.tables.specs.Refusals.{Sized};
 ghost use Rattle.channels.specs.Inner.{on_list, RolesOf, Lists};
 
 use answers::sizes;
-use tables::Tables;
+use tables::LentSheet;
 
 const ASSIGNED: u8 = 1;
 
@@ -31,7 +31,7 @@ impl RoleList {
     }
 
     // The roles that subject s has.
-    pub fn of(sheet: Tables, s: usize) -> RoleList
+    pub fn of(sheet: LentSheet, s: usize) -> RoleList
         requires sized { Sized (lent_by sheet) }
         requires subject { s < sheet.counts.subjects }
         ensures { RolesOf (lent_by sheet.entry) s result }
@@ -51,7 +51,7 @@ impl RoleList {
 }
 
 // The roles of each subject.
-pub fn list_roles(sheet: Tables) -> [RoleList; sizes::MOST_SUBJECTS]
+pub fn list_roles(sheet: LentSheet) -> [RoleList; sizes::MOST_SUBJECTS]
     requires { Sized (lent_by sheet) }
     ensures { Lists (lent_by sheet.entry) result }
 {

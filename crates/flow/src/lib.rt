@@ -8,10 +8,10 @@ ghost use Rattle.flow.specs.Fill.{FlowFilled, Fills};
 
 use answers::refused::Refused;
 use answers::{Square, sizes};
-use tables::Tables;
+use tables::LentSheet;
 
 // Writes the flow table of a sheet whose tables were not refused. No lent buffer serves as scratch: the channels stand in a local table.
-fn close_channels(sheet: Tables, flow: &mut [u8])
+fn close_channels(sheet: LentSheet, flow: &mut [u8])
     requires { Fillable (lent_by sheet) flow.old }
     ensures { FlowFilled (sheet_in (lent_by sheet.entry)) flow.old flow.new }
 {
@@ -27,7 +27,7 @@ fn close_channels(sheet: Tables, flow: &mut [u8])
 
 // Writes the flow table of a sheet: the byte at x * N + y is 1 if x flows to y, and 0 if not. Refuses with 1, 5 and 11, in this order,
 // and then changes nothing.
-pub fn fill(sheet: Tables, flow: &mut [u8]) -> Result<(), Refused>
+pub fn fill(sheet: LentSheet, flow: &mut [u8]) -> Result<(), Refused>
     ensures { Fills (lent_by sheet.entry) flow.old (code result, flow.new) }
 {
     refusals::check_sheet(flow.len() < sizes::LEAST_FLOW, refusals::NO_LIST, sheet)?;

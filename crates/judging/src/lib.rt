@@ -3,7 +3,6 @@
 
 ghost use Rattle.std.specs.Prelude.{◌≡◌, ◌+◌, ◌*◌, ◌≤◌, ◌<◌, length};
 ghost use Rattle.answers.specs.Rows.{Bytes};
-ghost use Rattle.tables.specs.Sheet.{from, to};
 ghost use Rattle.rows.specs.Written.{FlowRow};
 ghost use Rattle.chains.specs.Distance.{Smallest};
 ghost use Rattle.separations.specs.Judgement.{Broken, judged_found, Judgement};
@@ -11,17 +10,8 @@ ghost use Rattle.judging.specs.Inner.{HeldRow, Searchable};
 
 use answers::Square;
 use answers::sizes::MOST_ENTITIES;
-use separations::Finding;
-
-// The two entities of separation i.
-fn separation(separations: &[u8], i: usize) -> (usize, usize)
-    requires { 2 * i + 1 < length separations.now }
-    ensures { (result.0 ≡ from separations.now i) × (result.1 ≡ to separations.now i) }
-{
-    let first = separations[2 * i];
-    let second = separations[2 * i + 1];
-    (usize::from(first), usize::from(second))
-}
+use separations::Breach;
+use tables::Separations;
 
 // Writes the row of x, unless it is the row that the buffer holds.
 fn hold_row(channels: Square, held: Option<usize>, x: usize, row: &mut [u8])
@@ -34,18 +24,18 @@ fn hold_row(channels: Square, held: Option<usize>, x: usize, row: &mut [u8])
 }
 
 // The position of the first broken separation. Separations ascend, so each first entity has its row written once.
-fn first_broken(channels: Square, count: usize, separations: &[u8]) -> Option<usize>
-    requires { Searchable channels.n count separations.now }
-    ensures { Smallest (λ i. Broken (Bytes channels.entry.n channels.entry.bytes.now) separations.now i) count result }
+fn first_broken(channels: Square, separations: Separations) -> Option<usize>
+    requires { Searchable channels.n separations.count separations.pairs.now }
+    ensures { Smallest (λ i. Broken (Bytes channels.entry.n channels.entry.bytes.now) separations.entry.pairs.now i) separations.entry.count result }
 {
     let mut places = [0; MOST_ENTITIES];
     let row = &mut places[..channels.n];
     let mut held = None;
-    for i in 0..count {
-        let (x, y) = separation(separations, i);
-        hold_row(channels, held, x, row);
-        held = Some(x);
-        if row[y] == 1 {
+    for i in 0..separations.count {
+        let (x, y) = separations.pair(i);
+        hold_row(channels, held, x as usize, row);
+        held = Some(x as usize);
+        if row[y as usize] == 1 {
             return Some(i);
         }
     }
@@ -55,15 +45,15 @@ fn first_broken(channels: Square, count: usize, separations: &[u8]) -> Option<us
 // Judges the separations over a channel table, and writes the chain of the first broken one.
 pub fn judge_channels(
     channels: Square,
-    count: usize,
-    separations: &[u8],
+    separations: Separations,
     chain: &mut [u8],
-) -> Option<Finding>
-    requires { Searchable channels.n count separations.now × (channels.n ≤ length chain.old) }
-    ensures { Judgement (Bytes channels.entry.n channels.entry.bytes.now) count separations.now chain.old (judged_found result, chain.new) }
+) -> Option<Breach>
+    requires { Searchable channels.n separations.count separations.pairs.now × (channels.n ≤ length chain.old) }
+    ensures { Judgement (Bytes channels.entry.n channels.entry.bytes.now) separations.entry.count separations.entry.pairs.now chain.old (judged_found result, chain.new) }
 {
-    let position = first_broken(channels, count, separations)?;
-    let (x, y) = separation(separations, position);
-    let count = chains::show_chain(channels, x, y, chain)?;
-    Some(Finding { position, count })
+    let position = first_broken(channels, separations)?;
+    let (x, y) = separations.pair(position);
+    // a broken separation has a chain
+    let count = chains::show_chain(channels, x as usize, y as usize, chain).unwrap();
+    Some(Breach { position, count })
 }

@@ -7,7 +7,7 @@ ghost use Rattle.std.specs.Prelude.{◌*◌, ◌≤◌, length};
 use answers::refused::{Refused, answer_of};
 use answers::sizes;
 use std::io;
-use tables::{Counts, Tables};
+use tables::{Counts, LentSheet};
 use transfers::Tally;
 
 fn print(rt: &impl Print, what: &str, answer: Result<(), Refused>) -> io::Result<()> {
@@ -56,7 +56,7 @@ fn read_separations(count: usize) -> Result<(), Refused>
 // ---- rehearsals
 
 fn rehearse(transfers: &[u8], applied: u32) -> Result<(), Refused> {
-    let nothing = Tables {
+    let nothing = LentSheet {
         counts: Counts {
             subjects: 0,
             objects: 0,

@@ -13,7 +13,7 @@ ghost use Rattle.refusals.specs.Inner.{Measured};
 
 use answers::refused::{Refused, first_refused};
 use answers::{Square, sizes};
-use tables::{Counts, Tables};
+use tables::{Counts, Separations, LentSheet};
 
 // What a call says of its other buffers, if it has none.
 pub const NO_OTHER: bool = false;
@@ -33,7 +33,7 @@ pub fn counts_exceed(counts: Counts) -> bool
 }
 
 // 1 or 5 of a call on tables.
-fn check_sizes(short: bool, long: bool, sheet: Tables) -> Result<(), Refused>
+fn check_sizes(short: bool, long: bool, sheet: LentSheet) -> Result<(), Refused>
     ensures { code result ≡ first_refusal (size_refusals short long (lent_by sheet.entry)) }
 {
     let counts = sheet.counts;
@@ -51,7 +51,7 @@ fn check_sizes(short: bool, long: bool, sheet: Tables) -> Result<(), Refused>
 }
 
 // 11 of tables that passed 1 and 5.
-fn check_used(sheet: Tables) -> Result<(), Refused>
+fn check_used(sheet: LentSheet) -> Result<(), Refused>
     requires { Measured (lent_by sheet) }
     ensures { code result ≡ first_refusal (used_refusals (lent_by sheet.entry)) }
 {
@@ -63,7 +63,7 @@ fn check_used(sheet: Tables) -> Result<(), Refused>
 
 // 1, 5 or 11 of a call on tables. `short` says that another buffer of the call is too short, `long` that its transfer list is over its
 // size. Bytes are looked at only where 1 and 5 have passed.
-pub fn check_sheet(short: bool, long: bool, sheet: Tables) -> Result<(), Refused>
+pub fn check_sheet(short: bool, long: bool, sheet: LentSheet) -> Result<(), Refused>
     ensures { code result ≡ first_refusal (sheet_refusals short long (lent_by sheet.entry)) }
 {
     check_sizes(short, long, sheet)?;
@@ -73,45 +73,45 @@ pub fn check_sheet(short: bool, long: bool, sheet: Tables) -> Result<(), Refused
 // ---- separations
 
 // The number by which separation `i` ascends.
-fn key_at(separations: &[u8], i: usize) -> usize
-    requires { 2 * i + 1 < length separations.now }
-    ensures { result ≡ separation_key separations.now i }
+fn key_at(separations: Separations, i: usize) -> usize
+    requires { 2 * i + 1 < length separations.pairs.now }
+    ensures { result ≡ separation_key separations.entry.pairs.now i }
 {
-    separations[2 * i] as usize * 256 + separations[2 * i + 1] as usize
+    let (from, to) = separations.pair(i);
+    from as usize * 256 + to as usize
 }
 
 // Whether separation `i` does not ascend from the one before it.
-fn is_late(separations: &[u8], i: usize) -> bool
-    requires { 2 * i + 1 < length separations.now }
-    ensures { result ≡ (ltb 0 i && leb (separation_key separations.now i) (separation_key separations.now (i - 1))) }
+fn is_late(separations: Separations, i: usize) -> bool
+    requires { 2 * i + 1 < length separations.pairs.now }
+    ensures { let pairs = separations.entry.pairs.now in result ≡ (ltb 0 i && leb (separation_key pairs i) (separation_key pairs (i - 1))) }
 {
     0 < i && key_at(separations, i) <= key_at(separations, i - 1)
 }
 
 // 6 or 7 of separation `i` among `n` entities.
-fn check_pair(n: usize, separations: &[u8], i: usize) -> Result<(), Refused>
-    requires { 2 * i + 1 < length separations.now }
-    ensures { code result ≡ first_refusal (pair_refusals n separations.now i) }
+fn check_pair(n: usize, separations: Separations, i: usize) -> Result<(), Refused>
+    requires { 2 * i + 1 < length separations.pairs.now }
+    ensures { code result ≡ first_refusal (pair_refusals n separations.entry.pairs.now i) }
 {
-    let from = separations[2 * i] as usize;
-    let to = separations[2 * i + 1] as usize;
+    let (from, to) = separations.pair(i);
     let late = is_late(separations, i);
     first_refused(&[
-        (n <= from, Refused::OutOfRange),
-        (n <= to, Refused::OutOfRange),
+        (n <= from as usize, Refused::OutOfRange),
+        (n <= to as usize, Refused::OutOfRange),
         (late, Refused::NotAscending),
     ])
 }
 
-// 8 of `count` separations among `n` entities, else 6 or 7 of the first faulty one.
-pub fn check_separations(n: usize, count: usize, separations: &[u8]) -> Result<(), Refused>
-    requires { least_separations ≤ length separations.now }
-    ensures { code result ≡ first_refusal (separation_refusals n count separations.now) }
+// 8 of separations among `n` entities, else 6 or 7 of the first faulty one.
+pub fn check_separations(n: usize, separations: Separations) -> Result<(), Refused>
+    requires { least_separations ≤ length separations.pairs.now }
+    ensures { code result ≡ first_refusal (separation_refusals n separations.entry.count separations.entry.pairs.now) }
 {
-    if count > sizes::MOST_SEPARATIONS {
+    if separations.count > sizes::MOST_SEPARATIONS {
         return Err(Refused::TooMany);
     }
-    for i in 0..count {
+    for i in 0..separations.count {
         check_pair(n, separations, i)?;
     }
     Ok(())

@@ -7,7 +7,7 @@ ghost use Rattle.transfers.specs.Rehearse.{new_tally};
 ghost use Rattle.rehearsal.specs.Calls.{RehearsesFlat, RehearsesRecords, WithTally, WithLentTally};
 
 use answers::refused::Refused;
-use tables::Tables;
+use tables::LentSheet;
 use transfers::{Tally, Transfer};
 
 // A tally before its first rehearsal.
@@ -19,7 +19,7 @@ pub fn new_tally() -> Tally
 
 // Rehearses flat bytes, three for each transfer. The tally is raised once.
 pub fn rehearse(
-    sheet: Tables,
+    sheet: LentSheet,
     transfers: &[u8],
     marks: &mut [u32],
     verdicts: &mut [u8],
@@ -32,7 +32,7 @@ pub fn rehearse(
 
 // Rehearses a list of records, lent as they stand. The tally is raised once.
 pub fn rehearse_records(
-    sheet: Tables,
+    sheet: LentSheet,
     records: &[Transfer],
     marks: &mut [u32],
     verdicts: &mut [u8],
@@ -45,7 +45,7 @@ pub fn rehearse_records(
 
 // Rehearses flat bytes, with the tally by value.
 pub fn rehearse_tallied(
-    sheet: Tables,
+    sheet: LentSheet,
     transfers: &[u8],
     marks: &mut [u32],
     verdicts: &mut [u8],

@@ -17,7 +17,7 @@ use answers::refused::Refused;
 use answers::{Square, sizes};
 use frames::RefusedText;
 use separations::Finding;
-use tables::Tables;
+use tables::LentSheet;
 
 pub const LEAST_OUTPUT: usize = 1435;
 
@@ -76,7 +76,7 @@ fn put_broken(out: &mut [u8], at: usize, finding: Finding, chain: &[u8]) -> usiz
 
 // The line of the verdict on a sheet that was accepted.
 fn put_verdict(
-    sheet: Tables,
+    sheet: LentSheet,
     count: usize,
     separations: &[u8],
     out: &mut [u8],
@@ -98,7 +98,7 @@ fn put_verdict(
 // ---- the whole output
 
 // The output for an accepted sheet, at the start of the buffer; the answer is its length.
-fn put_sheet(sheet: Tables, count: usize, separations: &[u8], out: &mut [u8]) -> usize
+fn put_sheet(sheet: LentSheet, count: usize, separations: &[u8], out: &mut [u8]) -> usize
     requires printable { Printable (lent_by sheet) count separations.now }
     requires least_output_in_bounds { least_output ≤ length out.old }
     ensures { PutSheet (lent_by sheet.entry) count separations.now out.old result out.new }
@@ -144,7 +144,7 @@ pub fn report(text: &[u8], out: &mut [u8]) -> Result<usize, Refused>
     let size = match read {
         Err(refused) => put_refusal(out, refused),
         Ok(accepted) => {
-            let sheet = Tables {
+            let sheet = LentSheet {
                 counts: accepted.counts,
                 assignment: &assignment,
                 permission: &permission,

@@ -1,11 +1,13 @@
 -- Laws of the list of all entities: two entities that change places, how it begins, and `Spread` past one that u has no channel to and
 -- past one that it has.
 use Prim.Native.Nat.{ℕ, ◌+◌, ◌≤◌, ◌<◌}
-use mathlib.Core.Path.{◌≡◌, sym, ap, ◌∙◌}
+use mathlib.Core.Path.{◌≡◌, refl, sym, ap, ◌∙◌}
 use mathlib.Core.List.{List}
 use native.Mathlib.Decide.{ℕ_discrete}
 use native.Mathlib.Omega.{arith}
-use lib.ListN.{length, get_or}
+use lib.ListN.{length, get_or, set, length-set}
+use lib.Seq.{get_or-set_same, get_or-set_other}
+use Rattle.std.proofs.lemmas.List.{get_or_default}
 use borrow.Author.Count.{below_more}
 use Rattle.std.specs.List.{SwappedAt}
 use Rattle.rows.specs.Search.{Among, Arranged, SearchBegun, Spread}
@@ -40,6 +42,33 @@ pub begun_first : {n x : ℕ} (order order' : List ℕ) → x < n → n ≤ leng
     length order' ≡ length order → SwappedAt order order' 0 x → SearchBegun n x order'
 begun_first {x = x} order order' inside room own long s =
     record { arranged = arranged_swapped (arranged_first room own) (omega arith) inside long s; first = s.0 0 ∙ own x inside }
+
+-- two places that are exchanged by hand
+module _ (xs : List ℕ) (i j : ℕ) (hi : i < length xs) (hj : j < length xs) where
+  with_first : List ℕ
+  with_first = set xs i (get_or xs j 0)
+
+  second_in : j < length with_first
+  unfolding with_first
+  second_in = omega (arith, length-set xs i (get_or xs j 0))
+
+  first_at : (d : ℕ) → Dec (i ≡ j) → get_or (set with_first j (get_or xs i 0)) i d ≡ get_or xs j d
+  unfolding with_first
+  first_at d (yes e) =
+      ap (λ (k : ℕ). get_or (set (set xs i (get_or xs j 0)) j (get_or xs i 0)) k d) e ∙ get_or-set_same with_first j (get_or xs i 0) d second_in
+      ∙ ap (λ (k : ℕ). get_or xs k 0) e ∙ get_or_default xs j 0 d hj
+  first_at d (no ne) =
+      get_or-set_other with_first j i (get_or xs i 0) d (λ e. ne e) ∙ get_or-set_same xs i (get_or xs j 0) d hi ∙ get_or_default xs j 0 d hj
+
+  pub exchanged : SwappedAt xs (set (set xs i (get_or xs j 0)) j (get_or xs i 0)) i j
+  unfolding with_first
+  exchanged = (
+    λ d. first_at d (ℕ_discrete i j),
+    λ d. get_or-set_same with_first j (get_or xs i 0) d second_in ∙ get_or_default xs i 0 d hi,
+    λ k d ni nj.
+        get_or-set_other with_first j k (get_or xs i 0) d nj ∙ get_or-set_other xs i k (get_or xs j 0) d ni,
+    λ d. rw (get_or_default xs j 0 d hj, get_or_default xs i 0 d hi) refl,
+  )
 
 -- ---- `Spread`
 module _ {ch : ℕ → ℕ → Type 0} {n u tail : ℕ} {order : List ℕ} where

@@ -27,9 +27,11 @@ fn spread(channels: Square, u: usize, tail: usize, order: &mut [usize]) -> usize
 {
     let mut end = tail;
     for k in tail..channels.n {
-        let is_channel = channels.holds(u, order[k]);
+        let y = order[k];
+        let is_channel = channels.holds(u, y);
         if is_channel {
-            order.swap(k, end);
+            order[k] = order[end];
+            order[end] = y;
             end += 1;
         }
     }

@@ -14,7 +14,7 @@ use answers::refused::{Refused, first_refused};
 use answers::{Square, sizes};
 use lists::TransferList;
 use steps::Network;
-use tables::Tables;
+use tables::LentSheet;
 use transfers::Tally;
 
 const MOST_TALLIED: u32 = 4294963199;
@@ -29,7 +29,7 @@ fn few_lent(marks: usize, verdicts: usize) -> bool
 
 // 1, 5, 11, 15 or 17 of a rehearsal with so many marks and verdict bytes.
 fn check<L: TransferList>(
-    sheet: Tables,
+    sheet: LentSheet,
     list: L,
     marks: usize,
     verdicts: usize,
@@ -70,7 +70,7 @@ fn raise(tally: &mut Tally, counts: Tally)
 
 // Makes a rehearsal that nothing refuses, and tells the count applied. The tally is raised once.
 fn perform<L: TransferList>(
-    sheet: Tables,
+    sheet: LentSheet,
     list: L,
     marks: &mut [u32],
     verdicts: &mut [u8],
@@ -96,7 +96,7 @@ fn perform<L: TransferList>(
 
 // Rehearses a list of transfers.
 pub fn rehearse_list<L: TransferList>(
-    sheet: Tables,
+    sheet: LentSheet,
     list: L,
     marks: &mut [u32],
     verdicts: &mut [u8],

@@ -12,7 +12,7 @@ ghost use Rattle.text.specs.Content.{present, separates, closing};
 ghost use Rattle.scribe.specs.Put.{Puts, Room, Frames, Table, Scribable, Written};
 
 use frames::Frame;
-use tables::{Counts, Tables};
+use tables::{Counts, LentSheet};
 
 const HEADER: u8 = 1;
 
@@ -122,7 +122,7 @@ impl<'a> Pen<'a> {
 }
 
 // The one text of sound tables, at the start of the buffer; the answer is its length.
-pub fn write_tables(sheet: Tables, count: usize, separations: &[u8], text: &mut [u8]) -> usize
+pub fn write_tables(sheet: LentSheet, count: usize, separations: &[u8], text: &mut [u8]) -> usize
     requires { Scribable (lent_by sheet) count separations.now text.old }
     ensures { Written (sheet_of (lent_by sheet.entry) count separations.now) text.old result text.new }
 {

@@ -7,7 +7,7 @@ use Rattle.answers.specs.declared.refused.Refused.{Refused as Why}
 use Rattle.answers.specs.declared.refused.Refused.TheVariants.{ShortBuffer, NoBytes, NoFrame, Misplaced, Oversized, OutOfRange, NotAscending, TooMany, NoEnd, NoEntity, TableByte, FlowByte, NoChain, RaggedList, FullTally}
 use Rattle.answers.specs.Refused.{number}
 use Rattle.answers.proofs.Exits.{some_number, one_number}
-use Rattle.separations.specs.declared.Finding.{Finding as Found}
+use Rattle.separations.specs.declared.Breach.{Breach}
 use Rattle.separations.specs.Judgement.{judged_of}
 
 -- 14 is no refusal
@@ -29,7 +29,7 @@ no_refusal RaggedList e = omega arith
 no_refusal FullTally e = omega arith
 
 -- "no second answer": what C is told of a judgement tells which result it was
-pub one_judged : (r s : Result (Option Found) Why) → judged_of r ≡ judged_of s → r ≡ s
+pub one_judged : (r s : Result (Option Breach) Why) → judged_of r ≡ judged_of s → r ≡ s
 one_judged (Ok None) (Ok None) e = refl
 one_judged (Ok None) (Ok (Some g)) e = absurd (let z = ap (λ t. t.answer) e in omega arith)
 one_judged (Ok None) (Err b) e = absurd (some_number b (sym (ap (λ t. t.answer) e)))

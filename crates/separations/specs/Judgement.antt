@@ -7,7 +7,7 @@ use Rattle.tables.specs.Sheet.{from, to}
 use Rattle.theory.specs.Flow.{Flow}
 use Rattle.theory.specs.Chain.{Best}
 use Rattle.separations.specs.declared.Judged.{Judged}
-use Rattle.separations.specs.declared.Finding.{Finding as Found}
+use Rattle.separations.specs.declared.Breach.{Breach}
 
 -- "data of entity x must not reach entity y"; "one is broken exactly if such a chain exists", separation i
 abbrev pub Broken : (ℕ → ℕ → Type 0) → List ℕ → ℕ → Type 0
@@ -28,12 +28,12 @@ abbrev pub judged : ℕ → ℕ → ℕ → Judged
 judged n position count = record { answer = n; position = position; count = count }
 
 -- "The first broken one is answered by 14, its position from 0 and its chain"; with nothing to tell, "position and chain count" are 0
-abbrev pub judged_found : Option Found → Judged
+abbrev pub judged_found : Option Breach → Judged
 judged_found (Some found) = judged 14 found.position found.count
 judged_found None = judged 0 0 0
 
 -- "Every other number in its answer .. is 0": of a refusal the number is told
-abbrev pub judged_of : Result (Option Found) Why → Judged
+abbrev pub judged_of : Result (Option Breach) Why → Judged
 judged_of (Ok found) = judged_found found
 judged_of (Err why) = judged (number why) 0 0
 

@@ -8,7 +8,7 @@ use answers::refused::Refused;
 
 // The first broken separation: its position, and how many entities its chain has.
 #[derive(Clone, Copy)]
-pub struct Finding {
+pub struct Breach {
     pub position: usize,
     pub count: usize,
 }
@@ -22,12 +22,12 @@ pub struct Judged {
     pub count: usize,
 }
 
-impl From<Result<Option<Finding>, Refused>> for Judged {
+impl From<Result<Option<Breach>, Refused>> for Judged {
     ghost from_gives = { λ answer judged. judged ≡ judged_of answer };
 
-    fn from(answer: Result<Option<Finding>, Refused>) -> Judged {
+    fn from(answer: Result<Option<Breach>, Refused>) -> Judged {
         match answer {
-            Ok(Some(Finding { position, count })) => Judged {
+            Ok(Some(Breach { position, count })) => Judged {
                 answer: 14,
                 position,
                 count,

@@ -51,7 +51,7 @@ fn accepted_reading(k: frames::Passed) -> Reading
 
 // 1 of reading into tables of these lengths, 0 for none.
 fn length_refusal(assignment: usize, permission: usize, separations: usize) -> u8
-    ensures { (t : Tables) → length t.assignment ≡ assignment → length t.permission ≡ permission → length t.separations ≡ separations → result ≡ first_refusal (read_refusals t) }
+    ensures { (t : LentSheet) → length t.assignment ≡ assignment → length t.permission ≡ permission → length t.separations ≡ separations → result ≡ first_refusal (read_refusals t) }
 {
     let separated = answers::refuse(separations < sizes::LEAST_SEPARATIONS, 1, 0);
     let permitted = answers::refuse(permission < sizes::LEAST_PERMISSION, 1, separated);

@@ -8,7 +8,7 @@ ghost use Rattle.sievemarl.specs.ForC.{FillsForC, JudgesForC};
 
 use answers::refused::answer_of;
 use separations::Judged;
-use tables::{Counts, Tables};
+use tables::{Counts, Separations, LentSheet};
 
 // What judging answers, as one number.
 fn pack(j: Judged) -> u32
@@ -32,7 +32,7 @@ pub extern "C" fn sievemarl_fill_flow(
 ) -> u32
     ensures { FillsForC (lent (counts subjects objects roles) assignment.now permission.now) flow.old (result, flow.new) }
 {
-    let sheet = Tables {
+    let sheet = LentSheet {
         counts: Counts {
             subjects,
             objects,
@@ -59,7 +59,7 @@ pub extern "C" fn sievemarl_judge(
 ) -> u32
     ensures { JudgesForC (lent (counts subjects objects roles) assignment.now permission.now) count separations.now chain.old (result, chain.new) }
 {
-    let sheet = Tables {
+    let sheet = LentSheet {
         counts: Counts {
             subjects,
             objects,
@@ -68,6 +68,10 @@ pub extern "C" fn sievemarl_judge(
         assignment,
         permission,
     };
-    let judged = Judged::from(verdict::judge(sheet, count, separations, chain));
+    let separations = Separations {
+        count,
+        pairs: separations,
+    };
+    let judged = Judged::from(verdict::judge(sheet, separations, chain));
     pack(judged)
 }

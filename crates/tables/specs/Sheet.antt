@@ -1,7 +1,7 @@
 -- The tables of a sheet: as they are lent, and as what they say.
 use Rattle.std.specs.Prelude.{◌≡◌, ◌⊎◌, List, [], ℕ, ◌+◌, ◌*◌, ◌≤◌, ◌<◌, length, get_or, take}
 use Rattle.tables.specs.declared.Counts.{Counts}
-use Rattle.tables.specs.declared.Tables.{Tables}
+use Rattle.tables.specs.declared.LentSheet.{LentSheet}
 use Rattle.answers.specs.Rows.{at, SameUsed}
 use Rattle.answers.specs.Sizes.{most_subjects, most_objects, most_roles, most_separations}
 
@@ -34,7 +34,7 @@ abbrev pub lent : Counts → List ℕ → List ℕ → Lent
 lent c assignment permission = record { counts = c; assignment = assignment; permission = permission }
 
 -- what a caller lends
-abbrev pub lent_by : Tables → Lent
+abbrev pub lent_by : LentSheet → Lent
 lent_by t = lent t.counts t.assignment.now t.permission.now
 
 -- "Bytes past the used part are neither judged nor altered": what two callers lend, if it differs past the used parts at most

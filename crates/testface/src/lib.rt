@@ -14,7 +14,7 @@ use answers::refused::answer_of;
 use questions::Compared;
 use separations::Judged;
 use sheet::Reading;
-use tables::{Counts, Tables};
+use tables::{Counts, Separations, LentSheet};
 use transfers::{Tally, Transfer};
 
 #[unsafe(no_mangle)]
@@ -36,7 +36,7 @@ pub extern "C" fn testface_write(
     separations: &[u8],
     text: &mut [u8],
 ) -> Told {
-    let sheet = Tables {
+    let sheet = LentSheet {
         counts,
         assignment,
         permission,
@@ -56,7 +56,7 @@ pub extern "C" fn testface_fill(
     permission: &[u8],
     flow: &mut [u8],
 ) -> u8 {
-    let sheet = Tables {
+    let sheet = LentSheet {
         counts,
         assignment,
         permission,
@@ -153,7 +153,7 @@ pub extern "C" fn testface_chain(
     y: usize,
     chain: &mut [u8],
 ) -> Told {
-    let sheet = Tables {
+    let sheet = LentSheet {
         counts,
         assignment,
         permission,
@@ -170,12 +170,16 @@ pub extern "C" fn testface_judge(
     separations: &[u8],
     chain: &mut [u8],
 ) -> Judged {
-    let sheet = Tables {
+    let sheet = LentSheet {
         counts,
         assignment,
         permission,
     };
-    Judged::from(verdict::judge(sheet, count, separations, chain))
+    let separations = Separations {
+        count,
+        pairs: separations,
+    };
+    Judged::from(verdict::judge(sheet, separations, chain))
 }
 
 #[unsafe(no_mangle)]
@@ -195,7 +199,7 @@ pub extern "C" fn testface_rehearse(
 ) -> Told
     ensures { WithLentTally RehearsesFlat counts assignment permission transfers marks verdicts tally result }
 {
-    let sheet = Tables {
+    let sheet = LentSheet {
         counts,
         assignment,
         permission,
@@ -215,7 +219,7 @@ pub extern "C" fn testface_rehearse_records(
 ) -> Told
     ensures { WithLentTally RehearsesRecords counts assignment permission records marks verdicts tally result }
 {
-    let sheet = Tables {
+    let sheet = LentSheet {
         counts,
         assignment,
         permission,

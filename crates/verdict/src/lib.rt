@@ -16,11 +16,11 @@ ghost use Rattle.verdict.specs.Inner.{Showable, Judgeable, SheetVerdict};
 
 use answers::refused::{Refused, first_refused};
 use answers::{Square, sizes};
-use separations::Finding;
-use tables::Tables;
+use separations::Breach;
+use tables::{Separations, LentSheet};
 
 // 1, 5, 11 or 10 of a call that asks for a chain.
-fn check_chain(sheet: Tables, x: usize, y: usize, chain: &[u8]) -> Result<(), Refused>
+fn check_chain(sheet: LentSheet, x: usize, y: usize, chain: &[u8]) -> Result<(), Refused>
     ensures { code result ≡ first_refusal (chain_refusals (lent_by sheet.entry) x y chain.now) }
 {
     refusals::check_sheet(chain.len() < sizes::LEAST_CHAIN, refusals::NO_LIST, sheet)?;
@@ -29,7 +29,7 @@ fn check_chain(sheet: Tables, x: usize, y: usize, chain: &[u8]) -> Result<(), Re
 }
 
 // Writes the chain from x to y of a sheet whose tables were not refused, and returns its count of entities.
-fn show(sheet: Tables, x: usize, y: usize, chain: &mut [u8]) -> Option<usize>
+fn show(sheet: LentSheet, x: usize, y: usize, chain: &mut [u8]) -> Option<usize>
     requires { Showable (lent_by sheet) x y chain.old }
     ensures { ShownChain (Channel (sheet_in (lent_by sheet.entry))) x y chain.old chain.new result }
 {
@@ -45,7 +45,7 @@ fn show(sheet: Tables, x: usize, y: usize, chain: &mut [u8]) -> Option<usize>
 
 // Writes the chain from x to y: the shortest, and of the shortest the smallest. Tells its count of entities. Refuses with 1, 5, 11, 10
 // and, where there is no chain, 13, in this order, and then changes nothing.
-pub fn chain(sheet: Tables, x: usize, y: usize, chain: &mut [u8]) -> Result<usize, Refused>
+pub fn chain(sheet: LentSheet, x: usize, y: usize, chain: &mut [u8]) -> Result<usize, Refused>
     ensures { Shows (lent_by sheet.entry) x y chain.old (told_of result, chain.new) }
 {
     check_chain(sheet, x, y, chain)?;
@@ -55,24 +55,24 @@ pub fn chain(sheet: Tables, x: usize, y: usize, chain: &mut [u8]) -> Result<usiz
 // ---- the first broken separation
 
 // Whether one of the other buffers of a call that judges is too short.
-fn some_short(separations: &[u8], chain: &[u8]) -> bool
-    ensures { result ≡ (shorter separations.now least_separations || shorter chain.now least_chain) }
+fn some_short(pairs: &[u8], chain: &[u8]) -> bool
+    ensures { result ≡ (shorter pairs.now least_separations || shorter chain.now least_chain) }
 {
-    separations.len() < sizes::LEAST_SEPARATIONS || chain.len() < sizes::LEAST_CHAIN
+    pairs.len() < sizes::LEAST_SEPARATIONS || chain.len() < sizes::LEAST_CHAIN
 }
 
 // 1, 5, 11, 8, 6 or 7 of a call that judges.
-fn check_judge(sheet: Tables, count: usize, separations: &[u8], chain: &[u8]) -> Result<(), Refused>
-    ensures { code result ≡ first_refusal (judge_refusals (lent_by sheet.entry) count separations.now chain.now) }
+fn check_judge(sheet: LentSheet, separations: Separations, chain: &[u8]) -> Result<(), Refused>
+    ensures { code result ≡ first_refusal (judge_refusals (lent_by sheet.entry) separations.entry.count separations.entry.pairs.now chain.now) }
 {
-    refusals::check_sheet(some_short(separations, chain), refusals::NO_LIST, sheet)?;
-    refusals::check_separations(sheet.counts.entities(), count, separations)
+    refusals::check_sheet(some_short(separations.pairs, chain), refusals::NO_LIST, sheet)?;
+    refusals::check_separations(sheet.counts.entities(), separations)
 }
 
 // Judges the separations of a sheet that was not refused. The channel table is filled once, for the search and for the chain.
-fn judge_sheet(sheet: Tables, count: usize, separations: &[u8], chain: &mut [u8]) -> Option<Finding>
-    requires { Judgeable (lent_by sheet) count separations.now chain.old }
-    ensures { SheetVerdict (lent_by sheet.entry) count separations.now chain.old (judged_found result, chain.new) }
+fn judge_sheet(sheet: LentSheet, separations: Separations, chain: &mut [u8]) -> Option<Breach>
+    requires { Judgeable (lent_by sheet) separations.count separations.pairs.now chain.old }
+    ensures { SheetVerdict (lent_by sheet.entry) separations.entry.count separations.entry.pairs.now chain.old (judged_found result, chain.new) }
 {
     let n = sheet.counts.entities();
     let mut channels = [0; sizes::LEAST_FLOW];
@@ -81,20 +81,19 @@ fn judge_sheet(sheet: Tables, count: usize, separations: &[u8], chain: &mut [u8]
         n,
         bytes: &channels,
     };
-    judging::judge_channels(channels, count, separations, chain)
+    judging::judge_channels(channels, separations, chain)
 }
 
 // Judges the separations in list order. The first broken one is found, with its position from 0 and its chain; where all hold there is
 // none, and the chain buffer is as it was. Refuses with 1, 5, 11, 8 and, of the first faulty separation, 6 or 7, in this order, and then
 // changes nothing.
 pub fn judge(
-    sheet: Tables,
-    count: usize,
-    separations: &[u8],
+    sheet: LentSheet,
+    separations: Separations,
     chain: &mut [u8],
-) -> Result<Option<Finding>, Refused>
-    ensures { Judges (lent_by sheet.entry) count separations.now chain.old (judged_of result, chain.new) }
+) -> Result<Option<Breach>, Refused>
+    ensures { Judges (lent_by sheet.entry) separations.entry.count separations.entry.pairs.now chain.old (judged_of result, chain.new) }
 {
-    check_judge(sheet, count, separations, chain)?;
-    Ok(judge_sheet(sheet, count, separations, chain))
+    check_judge(sheet, separations, chain)?;
+    Ok(judge_sheet(sheet, separations, chain))
 }

@@ -5,7 +5,7 @@
 use answers::refused::Refused;
 use answers::sizes;
 use std::io;
-use tables::{Counts, Tables};
+use tables::{Counts, LentSheet};
 
 // The question: role 1 may no longer read object 0. A mode is 0 none, 1 read, 2 write, 3 both.
 const ROLE: usize = 1;
@@ -54,7 +54,7 @@ fn fill(
     permission: &[u8],
     flow: &mut [u8],
 ) -> Result<(), Refused> {
-    let sheet = Tables {
+    let sheet = LentSheet {
         counts,
         assignment,
         permission,

@@ -8,4 +8,4 @@ use Rattle.judging.proofs.first_broken.Given as goal
 abbrev pub invariant-loop-i : goal.invariant-loop-i
 invariant-loop-i l =
     HeldRow l.channels.n (Bytes l.channels.n l.channels.bytes.now) l.held l.row
-    × ((j : ℕ) → j < l.i → Broken (Bytes l.channels.n l.channels.bytes.now) l.separations j → ⊥)
+    × ((j : ℕ) → j < l.i → Broken (Bytes l.channels.n l.channels.bytes.now) l.separations.pairs.now j → ⊥)

@@ -4,4 +4,4 @@ use Rattle.refusals.proofs.check_pair.Goals as goal
 
 pub returns : goal.returns
 unfolding pair_refusals
-returns c = rw c.is_late-late.ensures at c.first_refused.ensures
+returns c = rw (c.pair-from.ensures.0, c.pair-from.ensures.1, c.is_late-late.ensures) at c.first_refused.ensures

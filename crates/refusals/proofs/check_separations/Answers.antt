@@ -7,8 +7,8 @@ use Rattle.refusals.proofs.Separated.{too_many, faulty, faultless}
 use Rattle.tables.proofs.Accepted.{pair_numbered}
 use Rattle.refusals.proofs.check_separations.Goals as goal
 
-pub returns-then-count-gt-MOST_SEPARATIONS : goal.returns-then-count-gt-MOST_SEPARATIONS
-returns-then-count-gt-MOST_SEPARATIONS c = too_many _ _ _ (omega arith)
+pub returns-then-separations-gt-MOST_SEPARATIONS : goal.returns-then-separations-gt-MOST_SEPARATIONS
+returns-then-separations-gt-MOST_SEPARATIONS c = too_many _ _ _ (omega arith)
 
 pub loop-i-init : goal.loop-i-init
 loop-i-init c = none_yet _ (pair_numbered _ _)

@@ -5,4 +5,4 @@ use Rattle.tables.specs.Refusals.{pair_refusals}
 use Rattle.refusals.proofs.check_separations.Given as goal
 
 abbrev pub invariant-loop-i : goal.invariant-loop-i
-invariant-loop-i l = first_refusal (each_below l.i (pair_refusals l.n l.separations)) ≡ 0
+invariant-loop-i l = first_refusal (each_below l.i (pair_refusals l.n l.separations.pairs.now)) ≡ 0

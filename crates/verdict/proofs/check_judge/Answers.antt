@@ -15,7 +15,7 @@ pub entities-requires : goal.entities-requires
 entities-requires c = (tables_passed _ _ _ (sym c.in_ok-check_sheet.ensures)).sized.counts_fit
 
 pub check_separations-requires : goal.check_separations-requires
-check_separations-requires c = (both_long _ c.args.count _ _ (sym (rw c.some_short.ensures at c.in_ok-check_sheet.ensures))).0
+check_separations-requires c = (both_long _ c.args.separations.count _ _ (sym (rw c.some_short.ensures at c.in_ok-check_sheet.ensures))).0
 
 pub returns : goal.returns
 unfolding judge_refusals
