@@ -18,9 +18,7 @@ fn separation(separations: &[u8], i: usize) -> (usize, usize)
     requires { 2 * i + 1 < length separations.now }
     ensures { (result.0 ≡ from separations.now i) × (result.1 ≡ to separations.now i) }
 {
-    let first = separations[2 * i];
-    let second = separations[2 * i + 1];
-    (usize::from(first), usize::from(second))
+    (separations[2 * i].into(), separations[2 * i + 1].into())
 }
 
 // Writes the row of x, unless it is the row that the buffer holds.
