@@ -1,5 +1,5 @@
 -- Distances by rounds: right at 0, right after each round, and final after as many rounds as there are entities.
-use Prim.Native.Nat.{ℕ, suc, ◌+◌, ◌≤◌, ◌<◌}
+use Prim.Native.Nat.{ℕ, zero, suc, ◌+◌, ◌-◌, ◌≤◌, ◌<◌}
 use mathlib.Core.Path.{◌≡◌, refl, sym, ap, subst, ◌∙◌}
 use mathlib.Core.List.{List, ◌∷◌}
 use native.Mathlib.Decide.{ℕ_discrete, dec_lt}
@@ -76,6 +76,25 @@ module _ {ch : ℕ → ℕ → Type 0} {n r : ℕ} (y : ℕ) {dist dist' : List 
 
   pub measured_next : Measured ch n y (r + 1) dist'
   measured_next x l = known_next l (s.each x)
+
+-- ---- no entity at r: no round from there on sets a distance
+module _ {ch : ℕ → ℕ → Type 0} {n r : ℕ} (y : ℕ) (dist : List (Option ℕ)) (inner : Inside n ch) (m : Measured ch n y r dist)
+    (none : (x : ℕ) → x < n → known dist x ≡ Some r → ⊥) where
+  no_near : (j : ℕ) {x : ℕ} → Near ch dist (r + j) n x → ⊥
+  no_near j p =
+      let low : r + j ≤ r = (rw p.at at (m p.to p.below)).0 in
+      let here : r + j ≡ r = omega arith in
+      none p.to p.below (p.at ∙ ap Some here)
+
+  idle : (j : ℕ) → Round ch n (r + j) n dist dist
+  idle j = record { each = λ x. kept refl; left = λ x l e p. no_near j p }
+
+  measured_after : (j : ℕ) → Measured ch n y (r + j) dist
+  measured_after zero = let same : r + 0 ≡ r = omega arith in rw same m
+  measured_after (suc j) = let next : r + suc j ≡ r + j + 1 = omega arith in rw next (measured_next y inner (measured_after j) (idle j))
+
+  pub measured_on : (k : ℕ) → r ≤ k → Measured ch n y k dist
+  measured_on k h = let same : r + (k - r) ≡ k = omega arith in rw same at (measured_after (k - r))
 
 -- ---- n rounds: a shortest chain has at most n entities
 bytes_decided : (n : ℕ) (table : List ℕ) (a b : ℕ) → Dec (Bytes n table a b)

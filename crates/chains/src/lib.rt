@@ -33,7 +33,8 @@ fn round(channels: Square, r: usize, dist: &mut [Option<usize>])
     }
 }
 
-// The distance of each entity to y. It goes by rounds: after the round at r each distance up to r + 1 is known.
+// The distance of each entity to y. It goes by rounds: after the round at r each distance up to r + 1 is known, and where no entity is
+// at r, none is further away.
 fn distances_to(channels: Square, y: usize) -> [Option<usize>; MOST_ENTITIES]
     requires { y < channels.n }
     ensures { Distances (Bytes channels.entry.n channels.entry.bytes.now) channels.entry.n y result }
@@ -41,6 +42,9 @@ fn distances_to(channels: Square, y: usize) -> [Option<usize>; MOST_ENTITIES]
     let mut dist = [None; MOST_ENTITIES];
     dist[y] = Some(0);
     for r in 0..channels.n {
+        if !dist.contains(&Some(r)) {
+            break;
+        }
         round(channels, r, &mut dist);
     }
     dist

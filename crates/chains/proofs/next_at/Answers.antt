@@ -5,7 +5,6 @@ use mathlib.Core.List.{List}
 use native.Mathlib.Omega.{arith}
 use Rattle.std.specs.Prelude.{Option, Some, None, MatchOption}
 use Rattle.std.proofs.Common.{rules, tests}
-use Rattle.std.proofs.lemmas.Grind.{common_steps}
 use Rattle.std.proofs.lemmas.Iterator.{first_from_Range}
 use Rattle.answers.specs.Rows.{Bytes, at}
 use Rattle.chains.specs.Distance.{known, Smallest}
@@ -28,5 +27,5 @@ returns c =
     let Q : ℕ → Type 0 = Sought c.args.channels.n c.args.channels.bytes.now c.args.v c.args.d c.args.dist.now in
     smallest _ _ _ _ _ c.requires.0 c.find.result
     (first_from_Range _ _ _ _ Q (λ w. Q w → ⊥) c.find.ensures.ran
-    (λ x q k. grind (arith, tests, common_steps))
-    (λ x q k. (search rules, grind (arith, tests, common_steps))))
+    (λ x q k. search (rules, tests))
+    (λ x q k. (search rules, λ p. search (rules, tests))))
