@@ -109,6 +109,7 @@ impl<'a> Pen<'a> {
     }
 
     // The end's line, with the count of the lines before it.
+    #[tactic(auto, unfolding(text::specs::Content::closing))]
     fn put_end(&mut self)
         requires lines_bound { self.old.lines < 65536 }
         requires room { Room (closing self.old.lines ∷ []) self.old }
