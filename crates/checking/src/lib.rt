@@ -9,6 +9,7 @@ ghost use Rattle.checking.specs.Inner.{Countable, Checks};
 
 use answers::refused::Refused;
 use frames::{Frame, Passed, RefusedText};
+use parsing::Lines;
 
 // After one more line.
 #[tactic(auto, unfolding(frames::specs::Check::next))]
@@ -16,16 +17,18 @@ pub fn state_after(k: Passed, f: Frame) -> Passed
     requires { Countable k }
     ensures { result ≡ after k f }
 {
-    let mut n = k;
-    n.lines += 1;
-    n.last = faults::key_of(f);
+    let mut after = Passed {
+        lines: k.lines + 1,
+        last: faults::key_of(f),
+        ..k
+    };
     match f {
-        Frame::Header(s, o, r) => n.counts = faults::header_counts(s, o, r),
-        Frame::Separate(..) => n.separations += 1,
-        Frame::End(..) => n.ended = true,
+        Frame::Header(s, o, r) => after.counts = faults::header_counts(s, o, r),
+        Frame::Separate(..) => after.separations += 1,
+        Frame::End(..) => after.ended = true,
         _ => {}
     }
-    n
+    after
 }
 
 // The frame of the next line, or the refusal of the text at it.
@@ -43,13 +46,11 @@ fn next_frame(k: Passed, line: Result<Frame, Refused>) -> Result<Frame, RefusedT
 pub fn check_text(text: &[u8]) -> Result<Passed, RefusedText>
     ensures { Checks text.now result }
 {
+    let lines = Lines { rest: text };
     let mut k = Passed::start();
-    let mut p = 0;
-    while p < text.len() {
-        let found = parsing::parse_at(text, p);
-        let frame = next_frame(k, found.parsed)?;
+    for line in lines {
+        let frame = next_frame(k, line)?;
         k = state_after(k, frame);
-        p = found.next;
     }
     if k.ended {
         return Ok(k);

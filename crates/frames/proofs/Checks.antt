@@ -12,10 +12,13 @@ use Rattle.answers.specs.declared.refused.Refused.{Refused as Why}
 use Rattle.answers.specs.Refused.{number}
 use Rattle.answers.proofs.Exits.{some_number}
 use Rattle.answers.proofs.Calls.{passed as none-held}
+use lib.Dec.{eqb}
+use lib.ListN.{length}
+use Rattle.digits.specs.Line.{Line, line, feed, joined, lines}
 use Rattle.frames.specs.declared.Frame.{Frame}
 use Rattle.frames.specs.declared.Frame.TheVariants.{Header, Assign, Permit, Separate, End}
 use Rattle.frames.specs.declared.Passed.{Passed}
-use Rattle.frames.specs.Frame.{text_of, key, Parsed}
+use Rattle.frames.specs.Frame.{parse, text_of, key, Parsed}
 use Rattle.frames.specs.Check.{start, next, misplaced, oversized, out_of_range, too_many, miscounted, frame_refusals, parsed_refusals, line_refusals, next_line, check, parsed_lines, frames_of, Refused, Accepted}
 use Rattle.frames.proofs.Frames.{FrameBytes, text_read}
 
@@ -123,6 +126,20 @@ more_lines k (Ok (Assign s r)) = omega arith
 more_lines k (Ok (Permit r o m)) = omega arith
 more_lines k (Ok (Separate v u)) = omega arith
 more_lines k (Ok (End v l)) = omega arith
+
+-- a text has at most as many lines as bytes
+pub few_lines : (t : List ℕ) → length (parsed_lines t) ≤ length t
+unfolding parsed_lines lines joined
+few_lines [] = omega arith
+few_lines (b ∷ t) = go (eqb b feed) (few_lines t)
+  where
+    longer : (ls : List Line) → length (map parse ls) ≤ length t → length (map parse (joined b ls)) ≤ suc (length t)
+    longer [] h = omega arith
+    longer (l ∷ ls) h = omega arith
+
+    go : (x : Bool) → length (map parse (lines t)) ≤ length t → length (map parse (cond x (line [] true ∷ lines t) (joined b (lines t)))) ≤ suc (length t)
+    go true h = omega arith
+    go false h = longer (lines t) h
 
 -- ---- a text that passes is one of frames
 pub err_refused : (k : Passed) (why : Why) → first_refusal (line_refusals k (Err why)) ≡ 0 → ⊥

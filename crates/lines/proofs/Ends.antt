@@ -1,14 +1,14 @@
--- The line that starts at p, by its end: it is the first line of the rest of the text.
-use Prim.Native.Nat.{ℕ, zero, suc, ◌+◌, ◌-◌, ◌<◌, ◌≤◌}
-use mathlib.Core.Path.{◌≡◌, ap, sym, ◌∙◌}
+-- The first line of a text, by where it ends.
+use Prim.Native.Nat.{ℕ, zero, suc, ◌<◌}
+use mathlib.Core.Path.{◌≡◌, ap, sym}
 use mathlib.Core.Bool.{Bool}
 use mathlib.Core.List.{List, [], ◌∷◌}
 use native.Mathlib.Nat.{not-suc-le-zero}
-use native.Mathlib.Decide.{ℕ_discrete, dec_lt}
+use native.Mathlib.Decide.{ℕ_discrete}
 use native.Mathlib.Omega.{arith}
 use lib.Dec.{ltb, leb-suc-suc}
-use lib.ListN.{length, take, drop, length-drop}
-use lib.Seq.{take-nil, drop-drop}
+use lib.ListN.{length, take, drop}
+use lib.Seq.{take-nil}
 use borrow.Author.Tests.{lt-ltb, le-ltb, eq-eqb, ne_eqb}
 use Rattle.digits.specs.Line.{line, feed, joined, lines, line_end}
 use Rattle.lines.proofs.Starts.{first_fed, first_more}
@@ -23,8 +23,8 @@ goes_on b t e h = omega (arith, first_more b t (no_feed b t e h))
 ends_here : (b : ℕ) (t : List ℕ) → 0 ≡ line_end (b ∷ t) 1 → b ≡ feed
 ends_here b t h = elim (ℕ_discrete b feed) [ yes q ↦ q | no q ↦ absurd (omega (arith, first_more b t q)) ]
 
--- the first line of a text, up to its end
-first_ends : (t : List ℕ) (e : ℕ) → 0 < length t → e ≡ line_end t 1 → lines t ≡ line (take e t) (ltb e (length t)) ∷ lines (drop (suc e) t)
+-- "each ended by one line feed": the first line's bytes, whether a line feed ends it, and the lines after that
+pub first_ends : (t : List ℕ) (e : ℕ) → 0 < length t → e ≡ line_end t 1 → lines t ≡ line (take e t) (ltb e (length t)) ∷ lines (drop (suc e) t)
 unfolding lines joined
 first_ends [] e l h = absurd (not-suc-le-zero l)
 first_ends (b ∷ t) zero l h = rw (eq-eqb b feed (ends_here b t h), lt-ltb 0 (length (b ∷ t)) l)
@@ -32,19 +32,3 @@ first_ends (b ∷ []) (suc e) l h = rw (ne_eqb b feed (no_feed b [] e h), take-n
 first_ends (b ∷ d ∷ t) (suc e) l h =
     rw (ne_eqb b feed (no_feed b (d ∷ t) e h), first_ends (d ∷ t) e (omega arith) (goes_on b (d ∷ t) e h))
     (ap (λ (x : Bool). line (b ∷ take e (d ∷ t)) x ∷ lines (drop e t)) (sym (leb-suc-suc (suc e) (suc (length t)))))
-
--- the same far less p of both numbers
-less_less : (p e n : ℕ) → p ≤ e → p ≤ n → ltb (e - p) (n - p) ≡ ltb e n
-less_less p e n k l = go (dec_lt e n)
-  where
-    go : Dec (e < n) → ltb (e - p) (n - p) ≡ ltb e n
-    go (yes h) = lt-ltb (e - p) (n - p) (omega arith) ∙ sym (lt-ltb e n h)
-    go (no h) = le-ltb (e - p) (n - p) (omega arith) ∙ sym (le-ltb e n (omega arith))
-
--- "each ended by one line feed": the line's bytes, whether a line feed ends it, and the lines after that
-pub line_ends : (t : List ℕ) (p e : ℕ) → p < length t → e ≡ p + line_end (drop p t) 1 →
-    lines (drop p t) ≡ line (take (e - p) (drop p t)) (ltb e (length t)) ∷ lines (drop (e + 1) t)
-line_ends t p e l h =
-    let next : p + suc (e - p) ≡ e + 1 = omega arith in
-    rw (← less_less p e (length t) (omega arith) (omega arith), ← length-drop p t, ← next, ← drop-drop)
-    (first_ends (drop p t) (e - p) (omega (arith, length-drop p t)) (omega arith))

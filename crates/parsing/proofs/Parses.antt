@@ -1,21 +1,21 @@
--- What a line comes to, by the count of its digits; and the line that starts at p.
-use Prim.Native.Nat.{ℕ, ◌+◌, ◌-◌, ◌<◌, ◌≤◌}
+-- What a line comes to, by the count of its digits; and the first line of a text.
+use Prim.Native.Nat.{ℕ, suc, min, ◌+◌, ◌<◌}
 use mathlib.Core.Path.{◌≡◌, ap, refl, sym, ◌∙◌}
 use mathlib.Core.Bool.{Bool, true, false, cond, ◌&&◌}
 use mathlib.Core.List.{List, [], ◌∷◌, map}
+use native.Mathlib.Decide.{dec_le}
 use native.Mathlib.Omega.{arith}
 use lib.Dec.{ltb}
-use lib.ListN.{length, take, drop}
+use lib.ListN.{length, take, drop, drop_of_length-le}
 use Rattle.std.specs.Prelude.{Err}
 use Rattle.answers.specs.declared.refused.Refused.TheVariants.{NoBytes, NoFrame}
 use Rattle.digits.specs.Digit.{digit_pairs, to_bytes}
-use Rattle.digits.specs.Line.{line, line_end, non_empty, sound_line}
+use Rattle.digits.specs.Line.{line, lines, line_end, non_empty, sound_line}
 use Rattle.digits.specs.Inner.{byte_at}
 use Rattle.digits.proofs.Pairs.{bytes_at, bytes_none, bytes_count}
-use Rattle.lines.proofs.Ends.{line_ends}
+use Rattle.lines.proofs.Ends.{first_ends}
 use Rattle.frames.specs.Frame.{Parsed, of_three, of_four, frame_of, parse}
 use Rattle.frames.specs.Check.{parsed_lines}
-use Rattle.parsing.specs.Inner.{FoundAt}
 
 -- ---- a line of pairs of digits
 pub of_six : (l : List ℕ) → length l ≡ 6 → of_three (byte_at l 0) (byte_at l 2) (byte_at l 4) ≡ frame_of (to_bytes l)
@@ -75,13 +75,20 @@ module _ (l : List ℕ) where
 
 pub ruleset line_laws = (parse_unended, parse_empty, parse_unpaired, parse_pairs)
 
--- ---- the line that starts at p, by where it ends
-pub line_found : (t : List ℕ) (p e : ℕ) (x : Parsed) → p < length t → e ≡ p + line_end (drop p t) 1 → e ≤ length t →
-    x ≡ parse (line (take (e - p) (drop p t)) (ltb e (length t))) → FoundAt t p (record { parsed = x; next = e + 1 })
+-- ---- the first line of a text, and the lines after it
+pub no_lines : (t : List ℕ) → length t ≡ 0 → parsed_lines t ≡ []
+unfolding parsed_lines lines
+no_lines [] e = refl
+no_lines (b ∷ t) e = absurd (omega arith)
+
+behind : (t : List ℕ) (e n : ℕ) → n ≡ min (length t) (e + 1) → drop n t ≡ drop (suc e) t
+behind t e n h =
+    elim (dec_le (suc e) (length t)) [
+      | yes l ↦ let same : n ≡ suc e = omega arith in rw same
+      | no l ↦ drop_of_length-le t {i = n} (omega arith) ∙ sym (drop_of_length-le t {i = suc e} (omega arith))
+    ]
+
+pub first_line : (t : List ℕ) (e n : ℕ) (x : Parsed) → 0 < length t → e ≡ line_end t 1 → n ≡ min (length t) (e + 1) →
+    x ≡ parse (line (take e t) (ltb e (length t))) → parsed_lines t ≡ x ∷ parsed_lines (drop n t)
 unfolding parsed_lines
-line_found t p e x more ends near is =
-    record {
-      onward = omega arith;
-      near = omega arith;
-      first = ap (map parse) (line_ends t p e more ends) ∙ ap (λ (y : Parsed). y ∷ parsed_lines (drop (e + 1) t)) (sym is);
-    }
+first_line t e n x more ends next is = ap (map parse) (first_ends t e more ends) ∙ rw (is, behind t e n next)

@@ -1,22 +1,14 @@
-// A line of a text: what it comes to, and where the next one begins.
+// The lines of a text, and what each comes to.
 #![tactic(auto)]
 
-ghost use Rattle.std.specs.Prelude.{◌≡◌, true, ◌<◌, length};
+ghost use Rattle.std.specs.Prelude.{◌≡◌, true};
 ghost use Rattle.digits.specs.Digit.{digit_pairs, to_bytes};
 ghost use Rattle.digits.specs.Line.{line as asLine};
 ghost use Rattle.frames.specs.Frame.{of_three, of_four, frame_of, parse};
-ghost use Rattle.parsing.specs.Inner.{FoundAt};
 
 use answers::refused::Refused;
 use digits::byte_at;
 use frames::Frame;
-
-// A line that was read, and where the next one begins.
-#[derive(Clone, Copy)]
-pub struct Found {
-    pub parsed: Result<Frame, Refused>,
-    pub next: usize,
-}
 
 #[tactic(auto, unfolding(frames::specs::Frame::of_three))]
 fn of_three(kind: u8, a: u8, b: u8) -> Result<Frame, Refused>
@@ -69,15 +61,30 @@ fn parse_line(line: &[u8], ended: bool) -> Result<Frame, Refused>
     frame_of(line)
 }
 
-// The line that starts at p.
-pub fn parse_at(text: &[u8], p: usize) -> Found
-    requires { p < length text.now }
-    ensures { FoundAt text.now p result }
-{
-    let end = lines::end_of_line(text, p);
-    let parsed = parse_line(&text[p..end], end < text.len());
-    Found {
-        parsed,
-        next: end + 1,
+// What the lines of a text come to, one after the other.
+#[derive(Drop)]
+pub struct Lines<'a> {
+    pub rest: &'a [u8],
+}
+
+impl<'a> Iterator for Lines<'a> {
+    ghost use Rattle.std.specs.Iterator.{YieldsFirst, item_count};
+    ghost use Rattle.parsing.specs.Inner.{lines_left};
+
+    type Item = Result<Frame, Refused>;
+
+    ghost next_gives = { YieldsFirst lines_left };
+
+    ghost remaining = { item_count lines_left };
+
+    fn next(&mut self) -> Option<Result<Frame, Refused>> {
+        if self.rest.is_empty() {
+            return None;
+        }
+        let end = lines::end_of_line(self.rest, 0);
+        let line = parse_line(&self.rest[..end], end < self.rest.len());
+        let next = self.rest.len().min(end + 1);
+        self.rest = &self.rest[next..];
+        Some(line)
     }
 }

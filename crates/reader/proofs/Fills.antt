@@ -1,34 +1,31 @@
 -- The second pass, turn by turn: the tables hold what was read, and the rest of the text adds up to what the whole text says.
 use Prim.Native.Nat.{ℕ, ◌+◌, ◌-◌, ◌≤◌, ◌<◌, ◌^◌}
 use mathlib.Core.Path.{◌≡◌, ap, refl, sym, subst, ◌∙◌}
-use mathlib.Core.List.{List, ◌∷◌, ◌++◌}
+use mathlib.Core.List.{List, [], ◌∷◌, ◌++◌}
 use native.Mathlib.Omega.{arith}
-use lib.ListN.{length, take, drop, take-append-drop, drop_of_length-le}
+use lib.ListN.{length, take, drop, take-append-drop}
 use lib.Seq.{drop-drop, length-take-le}
 use borrow.Author.Tests.{ltb-false}
 use Rattle.std.specs.Prelude.{Ok, Err}
 use Rattle.answers.specs.declared.refused.Refused.{Refused as Why}
 use Rattle.answers.specs.Rows.{over}
 use Rattle.tables.specs.Sheet.{Sheet, sheet_of}
-use Rattle.digits.specs.Line.{lines}
 use Rattle.frames.specs.declared.Frame.{Frame}
 use Rattle.frames.specs.declared.Frame.TheVariants.{Header, Assign, Permit, Separate, End}
 use Rattle.frames.specs.Frame.{Parsed}
 use Rattle.frames.specs.declared.Passed.{Passed}
 use Rattle.frames.specs.Check.{start, next, misplaced, Accepted, check, parsed_lines, frames_of}
-use Rattle.frames.proofs.Checks.{Fine, of_fine, line_passed, frame_passed, err_refused}
+use Rattle.frames.proofs.Checks.{Fine, of_fine, line_passed, frame_passed, err_refused, few_lines}
 use Rattle.frames.proofs.Ranges.{header_fits, separate_room}
-use Rattle.parsing.specs.declared.Found.{Found}
-use Rattle.parsing.specs.Inner.{FoundAt}
 use Rattle.text.specs.Content.{blank, add_all, content_of}
 use Rattle.reader.specs.Fill.{Tables, LongTables, TablesFilled}
 use Rattle.reader.specs.Inner.{held, assignment_used, permission_used, separations_used, Within, Passes, FrameStored}
 use Rattle.reader.proofs.Stores.{assignment_room, permission_room}
 
--- b are the tables at the place i of the text t, and b₀ as they were lent
-pub record Filling (t : List ℕ) (b₀ b : Tables) (k : Passed) (i : ℕ) : Type 0 where
-  pub left : check k (parsed_lines (drop i t)) ≡ Accepted
-  pub said : add_all (held k b) (frames_of (parsed_lines (drop i t))) ≡ content_of (frames_of (parsed_lines t))
+-- b are the tables where these lines are left, and b₀ as they were lent
+pub record Filling (t : List ℕ) (b₀ b : Tables) (k : Passed) (rest : List Parsed) : Type 0 where
+  pub left : check k rest ≡ Accepted
+  pub said : add_all (held k b) (frames_of rest) ≡ content_of (frames_of (parsed_lines t))
   pub assignment_past : drop (assignment_used k) b.assignment ≡ drop (assignment_used k) b₀.assignment
   pub permission_past : drop (permission_used k) b.permission ≡ drop (permission_used k) b₀.permission
   pub separations_past : drop (separations_used k) b.separations ≡ drop (separations_used k) b₀.separations
@@ -36,13 +33,12 @@ pub record Filling (t : List ℕ) (b₀ b : Tables) (k : Passed) (i : ℕ) : Typ
   pub permission_length : length b.permission ≡ length b₀.permission
   pub separations_length : length b.separations ≡ length b₀.separations
   pub within : Within k
-  pub few_lines : k.lines ≤ i
-  pub near : i ≤ length t + 1
+  pub some_lines : k.lines + length rest ≤ length t
 
-pub filling_start : (t : List ℕ) (b : Tables) (k : Passed) → k ≡ start → check start (parsed_lines t) ≡ Accepted → Filling t b b k 0
+pub filling_start : (t : List ℕ) (b : Tables) (k : Passed) → k ≡ start → check start (parsed_lines t) ≡ Accepted → Filling t b b k (parsed_lines t)
 unfolding start blank content_of sheet_of
 filling_start t b k e h =
-    subst (λ (m : Passed). Filling t b b m 0) (sym e)
+    subst (λ (m : Passed). Filling t b b m (parsed_lines t)) (sym e)
     (record {
       left = h;
       said = refl;
@@ -53,8 +49,7 @@ filling_start t b k e h =
       permission_length = refl;
       separations_length = refl;
       within = record { counts_fit = record { subjects = omega arith; objects = omega arith; roles = omega arith }; separations = omega arith; fresh = λ _. refl };
-      few_lines = omega arith;
-      near = omega arith;
+      some_lines = omega (arith, few_lines t);
     })
 
 -- ---- from what is known before a line to what is known after it
@@ -105,9 +100,9 @@ kept : (n : ℕ) (a b : List ℕ) → n ≤ length a → drop n a ≡ drop n b �
 unfolding over
 kept n a b h e = sym (take-append-drop n a) ∙ ap (λ (l : List ℕ). take n a ++ l) (e ∙ ap (λ (m : ℕ). drop m b) (sym (length-take-le n a h)))
 
-parts_kept : (t : List ℕ) (b₀ b : Tables) (k : Passed) (i : ℕ) → Filling t b₀ b k i → LongTables b₀ → TablesFilled (held k b) b₀ b
+parts_kept : (t : List ℕ) (b₀ b : Tables) (k : Passed) (rest : List Parsed) → Filling t b₀ b k rest → LongTables b₀ → TablesFilled (held k b) b₀ b
 unfolding sheet_of
-parts_kept t b₀ b k i s long =
+parts_kept t b₀ b k rest s long =
     let a-fits : assignment_used k ≤ length b.assignment = omega (arith, assignment_room k s.within, s.assignment_length, long.assignment_long) in
     let p-fits : permission_used k ≤ length b.permission = omega (arith, permission_room k s.within, s.permission_length, long.permission_long) in
     let q-fits : separations_used k ≤ length b.separations = omega (arith, s.within.separations, s.separations_length, long.separations_long) in
@@ -117,36 +112,33 @@ parts_kept t b₀ b k i s long =
       separations_filled = kept (separations_used k) _ _ q-fits s.separations_past;
     }
 
-module _ (t : List ℕ) (b₀ b : Tables) (k : Passed) (i : ℕ) (s : Filling t b₀ b k i) where
+module _ (t : List ℕ) (b₀ b : Tables) (k : Passed) (rest : List Parsed) (s : Filling t b₀ b k rest) where
   -- each line of an accepted text is a frame
-  pub no_other_line : (found : Found) (why : Why) → FoundAt t i found → found.parsed ≡ Err why → ⊥
-  no_other_line found why here e =
-      err_refused k why
-      (rw e at (line_passed k found.parsed (parsed_lines (drop found.next t)) (ap (check k) (sym here.first) ∙ s.left)).0)
+  pub no_other_line : (line : Parsed) (more : List Parsed) (why : Why) → rest ≡ line ∷ more → line ≡ Err why → ⊥
+  no_other_line line more why here e = err_refused k why (rw e at (line_passed k line more (ap (check k) (sym here) ∙ s.left)).0)
 
-  module _ (found : Found) (here : FoundAt t i found) (f : Frame) (is : found.parsed ≡ Ok f) where
-    lines_on : parsed_lines (drop i t) ≡ Ok f ∷ parsed_lines (drop found.next t)
-    lines_on = here.first ∙ rw is
+  module _ (line : Parsed) (more : List Parsed) (f : Frame) (here : rest ≡ line ∷ more) (is : line ≡ Ok f) where
+    frame_here : rest ≡ Ok f ∷ more
+    frame_here = here ∙ rw is
 
-    at_line : Fine k f × (check (next k f) (parsed_lines (drop found.next t)) ≡ Accepted)
-    at_line = frame_passed k f (parsed_lines (drop found.next t)) (ap (check k) (sym lines_on) ∙ s.left)
+    at_line : Fine k f × (check (next k f) more ≡ Accepted)
+    at_line = frame_passed k f more (ap (check k) (sym frame_here) ∙ s.left)
 
-    pub line_passes : i < length t → length t < 2 ^ 63 → Passes k f
-    line_passes more short = record { within = s.within; few_lines = omega (arith, s.few_lines); fine = of_fine k f at_line.0 }
+    pub line_passes : length t < 2 ^ 63 → Passes k f
+    line_passes short = record { within = s.within; few_lines = omega (arith, s.some_lines); fine = of_fine k f at_line.0 }
 
     pub filling_next : (m : Passed) (b' : Tables) → m ≡ next k f → FrameStored k f b b' →
         length b'.assignment ≡ length b.assignment → length b'.permission ≡ length b.permission → length b'.separations ≡ length b.separations →
-        Filling t b₀ b' m found.next
+        Filling t b₀ b' m more
     unfolding add_all frames_of
     filling_next m b' known w la lp lq =
-        let rest : List Parsed = parsed_lines (drop found.next t) in
         let g = grows_frame k s.within f at_line.0 in
-        subst (λ (z : Passed). Filling t b₀ b' z found.next) (sym known)
+        subst (λ (z : Passed). Filling t b₀ b' z more) (sym known)
         (record {
           left = at_line.1;
           said =
-              ap (λ (u : Sheet). add_all u (frames_of rest)) w.content
-              ∙ ap (λ (l : List Parsed). add_all (held k b) (frames_of l)) (sym lines_on)
+              ap (λ (u : Sheet). add_all u (frames_of more)) w.content
+              ∙ ap (λ (l : List Parsed). add_all (held k b) (frames_of l)) (sym frame_here)
               ∙ s.said;
           assignment_past = w.assignment_past ∙ drop_further _ _ _ _ g.assignment s.assignment_past;
           permission_past = w.permission_past ∙ drop_further _ _ _ _ g.permission s.permission_past;
@@ -155,8 +147,7 @@ module _ (t : List ℕ) (b₀ b : Tables) (k : Passed) (i : ℕ) (s : Filling t 
           permission_length = lp ∙ s.permission_length;
           separations_length = lq ∙ s.separations_length;
           within = within_frame k s.within f at_line.0;
-          few_lines = omega (arith, g.one_more, s.few_lines, here.onward);
-          near = here.near;
+          some_lines = omega (arith, g.one_more, ap length here, s.some_lines);
         })
 
   pub still_long : LongTables b₀ → LongTables b
@@ -168,12 +159,6 @@ module _ (t : List ℕ) (b₀ b : Tables) (k : Passed) (i : ℕ) (s : Filling t 
       }
 
   -- no line is left
-  pub filling_done : length t ≤ i → LongTables b₀ → TablesFilled (content_of (frames_of (parsed_lines t))) b₀ b
-  unfolding add_all frames_of parsed_lines lines
-  filling_done done long = subst (λ (u : Sheet). TablesFilled u b₀ b) all holding
-    where
-      all : held k b ≡ content_of (frames_of (parsed_lines t))
-      all = ap (λ (l : List ℕ). add_all (held k b) (frames_of (parsed_lines l))) (sym (drop_of_length-le t {i = i} done)) ∙ s.said
-
-      holding : TablesFilled (held k b) b₀ b
-      holding = parts_kept t b₀ b k i s long
+  pub filling_done : rest ≡ [] → LongTables b₀ → TablesFilled (content_of (frames_of (parsed_lines t))) b₀ b
+  unfolding add_all frames_of
+  filling_done done long = subst (λ (u : Sheet). TablesFilled u b₀ b) (rw done at s.said) (parts_kept t b₀ b k rest s long)

@@ -8,6 +8,7 @@ ghost use Rattle.reader.specs.Fill.{tables, at_entry, at_exit, LongTables, Table
 ghost use Rattle.reader.specs.Inner.{Passes, FrameStored};
 
 use frames::{Frame, Passed};
+use parsing::Lines;
 
 // The first n bytes become 0.
 fn clear(table: &mut [u8], n: usize)
@@ -52,16 +53,14 @@ pub fn fill(text: &[u8], assignment: &mut [u8], permission: &mut [u8], separatio
     requires long_tables { LongTables (tables assignment.old permission.old separations.old) }
     ensures { TablesFilled (content_of (frames_of (parsed_lines text.now))) (at_entry assignment permission separations) (at_exit assignment permission separations) }
 {
+    let lines = Lines { rest: text };
     let mut k = Passed::start();
-    let mut p = 0;
-    while p < text.len() {
-        let found = parsing::parse_at(text, p);
+    for line in lines {
         // Each line of an accepted text is a frame.
-        let Ok(frame) = found.parsed else {
+        let Ok(frame) = line else {
             return;
         };
         store_frame(k, frame, assignment, permission, separations);
         k = checking::state_after(k, frame);
-        p = found.next;
     }
 }

@@ -1,22 +1,20 @@
 -- A text over its size is refused with line 0, and the number of a refused line is at most one more than the most bytes of a text, so
 -- that two bytes hold it.
 use Prim.Native.Nat.{ℕ, zero, suc, ◌+◌, ◌≤◌, ◌<◌}
-use mathlib.Core.Path.{◌≡◌, refl, sym, ap}
+use mathlib.Core.Path.{◌≡◌, refl, sym}
 use mathlib.Core.Bool.{Bool, true, false, cond}
-use mathlib.Core.List.{List, [], ◌∷◌, map}
+use mathlib.Core.List.{List, [], ◌∷◌}
 use native.Mathlib.Nat.{le_of_eq}
 use native.Mathlib.Omega.{arith}
 use borrow.Author.Tests.{lt-ltb, ltb-false}
-use lib.Dec.{eqb}
 use lib.ListN.{length, replicate, length-replicate}
 use Rattle.answers.specs.Call.{first_refusal}
 use Rattle.answers.specs.Rows.{exceeds}
 use Rattle.answers.specs.Sizes.{most_text}
-use Rattle.digits.specs.Line.{Line, line, feed, joined, lines}
 use Rattle.frames.specs.declared.Passed.{Passed}
-use Rattle.frames.specs.Frame.{parse, Parsed}
+use Rattle.frames.specs.Frame.{Parsed}
 use Rattle.frames.specs.Check.{start, line_refusals, next_line, check, parsed_lines, frames_of, CheckedText, Refused, Accepted}
-use Rattle.frames.proofs.Checks.{check_go, check_stop, more_lines}
+use Rattle.frames.proofs.Checks.{check_go, check_stop, more_lines, few_lines}
 use Rattle.text.specs.Content.{content_of}
 use Rattle.text.specs.Reading.{refused, read_by, read_lines, read_text}
 use Rattle.text.proofs.AText.{reading}
@@ -38,25 +36,6 @@ over_size_lem = le_of_eq (sym (length-replicate {A = ℕ} 44241 0))
 over_size_read : read_text over_size ≡ refused 5 0
 over_size_read = over_size_refused over_size over_size_lem
 
--- ---- a text has no more lines than bytes
-joined_long : (b : ℕ) (ls : List Line) → length (joined b ls) ≤ suc (length ls)
-unfolding joined
-joined_long b [] = omega arith
-joined_long b (l ∷ ls) = omega arith
-
-lines_few : (t : List ℕ) → length (lines t) ≤ length t
-unfolding lines
-lines_few [] = omega arith
-lines_few (b ∷ t) = go (eqb b feed) (lines_few t)
-  where
-    go : (x : Bool) → length (lines t) ≤ length t → length (cond x (line [] true ∷ lines t) (joined b (lines t))) ≤ suc (length t)
-    go true h = omega arith
-    go false h = omega (arith, joined_long b (lines t))
-
-parsed_long : (ls : List Line) → length (map parse ls) ≡ length ls
-parsed_long [] = refl
-parsed_long (l ∷ ls) = ap suc (parsed_long ls)
-
 -- ---- the refused line is one of them, or the one after the last
 refused_among : (k : Passed) (ps : List Parsed) (n at : ℕ) → check k ps ≡ Refused n at → at ≤ k.lines + length ps + 1
 unfolding check
@@ -74,8 +53,8 @@ refused_among k (p ∷ ps) n at h = go (first_refusal (line_refusals k p)) refl 
 
 -- ---- of a text within its size; one over it is refused at line 0
 refused_within : (text : List ℕ) (n at : ℕ) → length text ≤ most_text → check start (parsed_lines text) ≡ Refused n at → at ≤ most_text + 1
-unfolding parsed_lines start
-refused_within text n at fits e = omega (arith, refused_among start (parsed_lines text) n at e, parsed_long (lines text), lines_few text)
+unfolding start
+refused_within text n at fits e = omega (arith, refused_among start (parsed_lines text) n at e, few_lines text)
 
 pub refused_line_fits : (text : List ℕ) (n at : ℕ) → read_text text ≡ refused n at → at ≤ most_text + 1
 unfolding read_text read_lines read_by

@@ -1,11 +1,7 @@
--- `checking::check_text` meets its contract: what is left of the text, read on from what is known, comes to what the whole text comes to.
-use Prim.Native.Nat.{◌+◌, ◌-◌}
-use lib.ListN.{length}
+-- `checking::check_text` meets its contract: the lines that are left, read on from what is known, come to what the whole text comes to.
+use Rattle.parsing.specs.Inner.{lines_left}
 use Rattle.checking.proofs.Turns.{Checking}
 use Rattle.checking.proofs.check_text.Given as goal
 
-abbrev pub invariant-loop-p : goal.invariant-loop-p
-invariant-loop-p l = Checking l.text l.k l.p
-
-abbrev pub decreases-loop-p : goal.decreases-loop-p
-decreases-loop-p l = length l.text + 1 - l.p
+abbrev pub invariant-loop-line : goal.invariant-loop-line
+invariant-loop-line l = Checking l.text l.k (lines_left l.line-iterator)

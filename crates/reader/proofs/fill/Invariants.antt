@@ -1,13 +1,10 @@
--- `reader::fill` meets its contract: the tables hold what was read, and the rest of the text adds up to what the whole text says. Assumes nothing.
-use Prim.Native.Nat.{◌+◌, ◌-◌}
-use lib.ListN.{length}
+-- `reader::fill` meets its contract: the tables hold what was read, and the lines that are left add up to what the whole text says.
+use Rattle.parsing.specs.Inner.{lines_left}
 use Rattle.reader.specs.Fill.{tables}
 use Rattle.reader.proofs.Fills.{Filling}
 use Rattle.reader.proofs.fill.Given as goal
 
-abbrev pub invariant-loop-p : goal.invariant-loop-p
-invariant-loop-p l =
-    Filling l.text (tables l.initial.assignment l.initial.permission l.initial.separations) (tables l.assignment l.permission l.separations) l.k l.p
-
-abbrev pub decreases-loop-p : goal.decreases-loop-p
-decreases-loop-p l = length l.text + 1 - l.p
+abbrev pub invariant-loop-line : goal.invariant-loop-line
+invariant-loop-line l =
+    Filling l.text (tables l.initial.assignment l.initial.permission l.initial.separations) (tables l.assignment l.permission l.separations) l.k
+    (lines_left l.line-iterator)

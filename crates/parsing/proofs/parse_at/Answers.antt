@@ -1,6 +1,0 @@
--- `parsing::parse_at` meets its contract: the line is the first one of the rest of the text. Assumes nothing.
-use Rattle.parsing.proofs.Parses.{line_found}
-use Rattle.parsing.proofs.parse_at.Goals as goal
-
-pub returns : goal.returns
-returns c = line_found _ _ _ _ c.requires c.end_of_line-end.ensures.0 c.end_of_line-end.ensures.1 c.parse_line-parsed.ensures
