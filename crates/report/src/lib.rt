@@ -16,8 +16,8 @@ ghost use Rattle.tables.specs.FlowTable.{SoundFlow};
 use answers::refused::Refused;
 use answers::{Square, sizes};
 use frames::RefusedText;
-use separations::Finding;
-use tables::LentSheet;
+use separations::Breach;
+use tables::{LentSheet, Separations};
 
 pub const LEAST_OUTPUT: usize = 1435;
 
@@ -65,43 +65,37 @@ fn put_entities(out: &mut [u8], table: Square) -> usize
 // ---- the line of the verdict
 
 // The line of a broken separation, with its chain.
-fn put_broken(out: &mut [u8], at: usize, finding: Finding, chain: &[u8]) -> usize
-    requires { (finding.position < 256) × (finding.count ≤ 97) × (finding.count ≤ length chain.now) × (at + 203 ≤ length out.old) }
-    ensures { Put (line_of (0x82 ∷ 1 ∷ finding.position ∷ finding.count ∷ take finding.count chain.now)) at out.old result out.new }
+fn put_broken(out: &mut [u8], at: usize, breach: Breach, chain: &[u8]) -> usize
+    requires { (breach.position < 256) × (breach.count ≤ 97) × (breach.count ≤ length chain.now) × (at + 203 ≤ length out.old) }
+    ensures { Put (line_of (0x82 ∷ 1 ∷ breach.position ∷ breach.count ∷ take breach.count chain.now)) at out.old result out.new }
 {
-    let head = [VERDICT, 1, finding.position as u8, finding.count as u8];
+    let head = [VERDICT, 1, breach.position as u8, breach.count as u8];
     let end = digits::put_bytes(out, at, &head);
-    digits::put_line(out, end, &chain[..finding.count])
+    digits::put_line(out, end, &chain[..breach.count])
 }
 
 // The line of the verdict on a sheet that was accepted.
-fn put_verdict(
-    sheet: LentSheet,
-    count: usize,
-    separations: &[u8],
-    out: &mut [u8],
-    at: usize,
-) -> usize
-    requires printable { Printable (lent_by sheet) count separations.now }
+fn put_verdict(sheet: LentSheet, separations: Separations, out: &mut [u8], at: usize) -> usize
+    requires printable { Printable (lent_by sheet) separations.count separations.pairs.now }
     requires at_in_bounds { at + 203 ≤ length out.old }
-    ensures { PutVerdict (lent_by sheet.entry) count separations.now at out.old result out.new }
+    ensures { PutVerdict (lent_by sheet.entry) separations.entry.count separations.entry.pairs.now at out.old result out.new }
 {
     let mut chain = [0; sizes::LEAST_CHAIN];
-    let judged = verdict::judge(sheet, count, separations, &mut chain);
+    let judged = verdict::judge(sheet, separations, &mut chain);
     // such a sheet is never refused
     match judged.unwrap() {
         None => digits::put_line(out, at, &[VERDICT, 0]),
-        Some(finding) => put_broken(out, at, finding, &chain),
+        Some(breach) => put_broken(out, at, breach, &chain),
     }
 }
 
 // ---- the whole output
 
 // The output for an accepted sheet, at the start of the buffer; the answer is its length.
-fn put_sheet(sheet: LentSheet, count: usize, separations: &[u8], out: &mut [u8]) -> usize
-    requires printable { Printable (lent_by sheet) count separations.now }
+fn put_sheet(sheet: LentSheet, separations: Separations, out: &mut [u8]) -> usize
+    requires printable { Printable (lent_by sheet) separations.count separations.pairs.now }
     requires least_output_in_bounds { least_output ≤ length out.old }
-    ensures { PutSheet (lent_by sheet.entry) count separations.now out.old result out.new }
+    ensures { PutSheet (lent_by sheet.entry) separations.entry.count separations.entry.pairs.now out.old result out.new }
 {
     let mut flows = [0; sizes::LEAST_FLOW];
     // such a sheet is never refused
@@ -111,7 +105,7 @@ fn put_sheet(sheet: LentSheet, count: usize, separations: &[u8], out: &mut [u8])
         bytes: &flows,
     };
     let end = put_entities(out, table);
-    put_verdict(sheet, count, separations, out, end)
+    put_verdict(sheet, separations, out, end)
 }
 
 // The output for a refused text: its number, and its line, the high byte first.
@@ -149,7 +143,11 @@ pub fn report(text: &[u8], out: &mut [u8]) -> Result<usize, Refused>
                 assignment: &assignment,
                 permission: &permission,
             };
-            put_sheet(sheet, accepted.separations, &separations, out)
+            let separations = Separations {
+                count: accepted.separations,
+                pairs: &separations,
+            };
+            put_sheet(sheet, separations, out)
         }
     };
     Ok(size)

@@ -12,7 +12,7 @@ ghost use Rattle.text.specs.Content.{present, separates, closing};
 ghost use Rattle.scribe.specs.Put.{Puts, Room, Frames, Table, Scribable, Written};
 
 use frames::Frame;
-use tables::{Counts, LentSheet};
+use tables::{Counts, LentSheet, Separations};
 
 const HEADER: u8 = 1;
 
@@ -109,6 +109,7 @@ impl<'a> Pen<'a> {
     }
 
     // The end's line, with the count of the lines before it.
+    #[tactic(auto, unfolding(text::specs::Content::closing))]
     fn put_end(&mut self)
         requires lines_bound { self.old.lines < 65536 }
         requires room { Room (closing self.old.lines ∷ []) self.old }
@@ -122,9 +123,9 @@ impl<'a> Pen<'a> {
 }
 
 // The one text of sound tables, at the start of the buffer; the answer is its length.
-pub fn write_tables(sheet: LentSheet, count: usize, separations: &[u8], text: &mut [u8]) -> usize
-    requires { Scribable (lent_by sheet) count separations.now text.old }
-    ensures { Written (sheet_of (lent_by sheet.entry) count separations.now) text.old result text.new }
+pub fn write_tables(sheet: LentSheet, separations: Separations, text: &mut [u8]) -> usize
+    requires { Scribable (lent_by sheet) separations.count separations.pairs.now text.old }
+    ensures { Written (sheet_of (lent_by sheet.entry) separations.entry.count separations.entry.pairs.now) text.old result text.new }
 {
     let counts = sheet.counts;
     let mut pen = Pen {
@@ -145,7 +146,7 @@ pub fn write_tables(sheet: LentSheet, count: usize, separations: &[u8], text: &m
         sheet.permission,
         Frame::Permit,
     );
-    pen.put_separated(&separations[..2 * count]);
+    pen.put_separated(&separations.pairs[..2 * separations.count]);
     pen.put_end();
     pen.at
 }

@@ -7,4 +7,3 @@ pub mod ReadDone
 pub mod Calls
 pub mod ReadReturns
 pub mod Instances
-pub mod Placed

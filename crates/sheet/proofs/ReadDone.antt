@@ -13,9 +13,7 @@ use Rattle.answers.specs.Rows.{exceeds}
 use Rattle.answers.specs.Sizes.{most_text}
 use Rattle.answers.proofs.Calls.{passed, answered}
 use Rattle.tables.specs.Sheet.{Sheet}
-use Rattle.frames.specs.declared.CheckedText.{CheckedText}
-use Rattle.frames.specs.declared.CheckedText.TheVariants.{Refused, Accepted}
-use Rattle.frames.specs.Check.{start, check, parsed_lines, frames_of}
+use Rattle.frames.specs.Check.{start, check, parsed_lines, frames_of, CheckedText, Refused, Accepted}
 use Rattle.frames.proofs.Checks.{refused_number}
 use Rattle.text.specs.Content.{content_of}
 use Rattle.text.specs.Reading.{Read, refused, accepted, read_by, read_lines, read_text}

@@ -3,3 +3,4 @@ pub mod Read
 pub mod Write
 pub mod RefusedLine
 pub mod RoundTrip
+pub mod Inner

@@ -1,13 +1,16 @@
 -- `read`: what it answers and writes.
-use Rattle.std.specs.Prelude.{ℕ, ◌/◌, ◌≡◌, List, [], ◌∷◌, length}
+use Rattle.std.specs.Prelude.{ℕ, ◌/◌, ◌≡◌, Result, Ok, Err, List, [], ◌∷◌, length}
 use Rattle.answers.specs.Sizes.{least_assignment, least_permission, least_separations}
 use Rattle.answers.specs.Call.{Refusal, ◌if◌, Outcome}
+use Rattle.answers.specs.Refused.{number}
 use Rattle.answers.specs.Rows.{over, shorter}
 use Rattle.tables.specs.declared.Counts.{Counts}
 use Rattle.tables.specs.Sheet.{Sheet, counts}
+use Rattle.frames.specs.declared.RefusedText.{RefusedText}
 use Rattle.text.specs.Reading.{Read, refused, accepted, read_text}
 use Rattle.reader.specs.Fill.{Tables}
 use Rattle.sheet.specs.declared.Reading.{Reading}
+use Rattle.sheet.specs.declared.Accepted.{Accepted}
 
 -- the answer, and the lent tables afterwards
 pub record ReadResult : Type 0 where
@@ -37,6 +40,11 @@ not_read before n line = read_to (refused_by n line) before
 -- the counts and how many separations there are; "so is a number with nothing to tell (the line of an accepted sheet ..)"
 abbrev pub accepted_with : Counts → ℕ → Reading
 accepted_with c separations = record { answer = 0; line = 0; counts = c; separations = separations }
+
+-- "Where an answer is an enum, a definition gives this paper's number and values for each of its cases"
+abbrev pub reading_of : Result Accepted RefusedText → Reading
+reading_of (Ok sheet) = accepted_with sheet.counts sheet.separations
+reading_of (Err stop) = refused_by (number stop.why) stop.line
 
 -- the whole used parts are written, "Absent pairs mean 0", and "Bytes past the used part are neither judged nor altered"
 abbrev pub tables_read : Tables → Sheet → ReadResult

@@ -2,17 +2,27 @@
 #![tactic(auto)]
 
 ghost use Rattle.std.specs.Prelude.{◌≡◌, length};
-ghost use Rattle.answers.specs.Call.{first_refusal, told};
-ghost use Rattle.tables.specs.Sheet.{lent};
-ghost use Rattle.reader.specs.Fill.{Tables, at_entry, at_exit};
-ghost use Rattle.sheet.specs.Read.{read_to, read_refusals, refused_by, accepted_with, Reads};
+ghost use Rattle.answers.specs.Refused.{told_of};
+ghost use Rattle.tables.specs.Sheet.{lent_by};
+ghost use Rattle.reader.specs.Fill.{at_entry, at_exit, tables};
+ghost use Rattle.sheet.specs.Read.{reading_of, read_to, Reads};
+ghost use Rattle.sheet.specs.Inner.{LengthsChecked};
 ghost use Rattle.sheet.specs.Write.{Writes};
 ghost use Rattle.sheet.specs.RefusedLine.{RefusedLine};
 
-use answers::{Told, sizes};
-use tables::Counts;
+use answers::refused::{Refused, first_refused};
+use answers::sizes;
+use frames::RefusedText;
+use tables::{Counts, LentSheet, Separations};
 
-// What reading answers: the number and the line of a refusal, or the counts of an accepted sheet.
+// What an accepted text has beside its tables.
+#[derive(Clone, Copy)]
+pub struct Accepted {
+    pub counts: Counts,
+    pub separations: usize,
+}
+
+// What C is told of a reading: the number and the line of a refusal, or the counts of an accepted sheet.
 #[repr(C)]
 #[derive(Clone, Copy)]
 pub struct Reading {
@@ -22,40 +32,56 @@ pub struct Reading {
     pub separations: usize,
 }
 
-fn refused_reading(answer: u8, line: usize) -> Reading
-    ensures { result ≡ refused_by answer line }
-{
-    Reading {
-        answer,
-        line,
-        counts: Counts {
-            subjects: 0,
-            objects: 0,
-            roles: 0,
-        },
-        separations: 0,
+impl From<Result<Accepted, RefusedText>> for Reading {
+    ghost from_gives = { λ read reading. reading ≡ reading_of read };
+
+    fn from(read: Result<Accepted, RefusedText>) -> Reading {
+        match read {
+            Ok(accepted) => Reading {
+                answer: 0,
+                line: 0,
+                counts: accepted.counts,
+                separations: accepted.separations,
+            },
+            Err(refused) => Reading {
+                answer: refused.why as u8,
+                line: refused.line,
+                counts: Counts {
+                    subjects: 0,
+                    objects: 0,
+                    roles: 0,
+                },
+                separations: 0,
+            },
+        }
     }
 }
 
-fn accepted_reading(k: frames::Passed) -> Reading
-    ensures { result ≡ accepted_with k.counts k.separations }
+// 1, then 5 for the text's length, both with line 0.
+fn check_lengths(
+    text: &[u8],
+    assignment: &[u8],
+    permission: &[u8],
+    separations: &[u8],
+) -> Result<(), RefusedText>
+    ensures { LengthsChecked text.now (tables assignment.now permission.now separations.now) result }
 {
-    let counts = k.counts;
-    Reading {
-        answer: 0,
-        line: 0,
-        counts,
-        separations: k.separations,
-    }
-}
-
-// 1 of reading into tables of these lengths, 0 for none.
-fn length_refusal(assignment: usize, permission: usize, separations: usize) -> u8
-    ensures { (t : LentSheet) → length t.assignment ≡ assignment → length t.permission ≡ permission → length t.separations ≡ separations → result ≡ first_refusal (read_refusals t) }
-{
-    let separated = answers::refuse(separations < sizes::LEAST_SEPARATIONS, 1, 0);
-    let permitted = answers::refuse(permission < sizes::LEAST_PERMISSION, 1, separated);
-    answers::refuse(assignment < sizes::LEAST_ASSIGNMENT, 1, permitted)
+    first_refused(&[
+        (
+            assignment.len() < sizes::LEAST_ASSIGNMENT,
+            Refused::ShortBuffer,
+        ),
+        (
+            permission.len() < sizes::LEAST_PERMISSION,
+            Refused::ShortBuffer,
+        ),
+        (
+            separations.len() < sizes::LEAST_SEPARATIONS,
+            Refused::ShortBuffer,
+        ),
+        (text.len() > sizes::MOST_TEXT, Refused::Oversized),
+    ])
+    .map_err(|why| RefusedText { why, line: 0 })
 }
 
 // Reads a sheet into the lent tables. The whole text is checked before a table is written, so a refusal changes none.
@@ -64,67 +90,38 @@ pub fn read(
     assignment: &mut [u8],
     permission: &mut [u8],
     separations: &mut [u8],
-) -> Reading
-    ensures { Reads text.now (at_entry assignment permission separations) (read_to result (at_exit assignment permission separations)) }
+) -> Result<Accepted, RefusedText>
+    ensures { Reads text.now (at_entry assignment permission separations) (read_to (reading_of result) (at_exit assignment permission separations)) }
 {
-    let refusal = length_refusal(assignment.len(), permission.len(), separations.len());
-    if refusal != 0 {
-        return refused_reading(refusal, 0);
-    }
-    let is_over = sizes::MOST_TEXT < text.len();
-    if is_over {
-        return refused_reading(5, 0);
-    }
-    let checked = checking::check_text(text);
-    let verdict = checked.verdict;
-    match verdict {
-        frames::CheckedText::Refused(n, line) => refused_reading(n, line),
-        frames::CheckedText::Accepted => {
-            reader::fill(text, assignment, permission, separations);
-            let passed = checked.passed;
-            accepted_reading(passed)
-        }
-    }
+    check_lengths(text, assignment, permission, separations)?;
+    let passed = checking::check_text(text)?;
+    reader::fill(text, assignment, permission, separations);
+    Ok(Accepted {
+        counts: passed.counts,
+        separations: passed.separations,
+    })
 }
 
 // ---- writing, and the refused line
 
-fn tell(answer: u8, value: usize) -> Told
-    ensures { result ≡ told answer value }
-{
-    Told { answer, value }
-}
-
-// Writes the one text of the sheet in the tables at the start of `text`: the answer, and the text's length.
+// Writes the one text of the sheet in the tables at the start of `text`. The answer is the text's length.
 pub fn write(
-    counts: Counts,
-    assignment: &[u8],
-    permission: &[u8],
-    count: usize,
-    separations: &[u8],
+    sheet: LentSheet,
+    separations: Separations,
     text: &mut [u8],
-) -> Told
-    ensures { Writes (lent counts assignment.now permission.now) count separations.now text.old (result, text.new) }
+) -> Result<usize, Refused>
+    ensures { Writes (lent_by sheet.entry) separations.entry.count separations.entry.pairs.now text.old (told_of result, text.new) }
 {
-    let short = answers::either(
-        separations.len() < sizes::LEAST_SEPARATIONS,
-        text.len() < sizes::LEAST_TEXT,
-    );
-    let shared = refusals::sheet_refusal(short, refusals::NO_LIST, counts, assignment, permission);
-    if shared != 0 {
-        return tell(shared, 0);
-    }
-    let entities = counts.subjects + counts.objects;
-    let own = refusals::separation_refusal(entities, count, separations);
-    if own != 0 {
-        return tell(own, 0);
-    }
-    let size = scribe::write_tables(counts, assignment, permission, count, separations, text);
-    tell(0, size)
+    let short = separations.pairs.len() < sizes::LEAST_SEPARATIONS || text.len() < sizes::LEAST_TEXT;
+    refusals::check_sheet(short, refusals::NO_LIST, sheet)?;
+    refusals::check_separations(sheet.counts.entities(), separations)?;
+    let size = scribe::write_tables(sheet, separations, text);
+    Ok(size)
 }
 
 // The line of a number, counted from 1, without its line feed: a part of the caller's own text. An unfinished last line counts.
 // Where there is no such line it is the empty part at the text's end.
+#[tactic(auto, using(lines::proofs::Places::start_first, lines::proofs::Places::end_within))]
 pub fn refused_line(text: &[u8], line: usize) -> &[u8]
     ensures { RefusedLine text.entry line result }
 {

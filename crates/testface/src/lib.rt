@@ -5,8 +5,6 @@
 // order as a number, and `refused_line` and `chosen_row` put the part itself, its place and its length, where the caller says.
 #![tactic(auto)]
 
-ghost use Rattle.answers.specs.Refused.{told_of};
-ghost use Rattle.tables.specs.Sheet.{tables};
 ghost use Rattle.rehearsal.specs.Calls.{RehearsesFlat, RehearsesRecords, WithLentTally};
 
 use answers::Told;
@@ -41,7 +39,11 @@ pub extern "C" fn testface_write(
         assignment,
         permission,
     };
-    Told::from(sheet::write(sheet, count, separations, text))
+    let separations = Separations {
+        count,
+        pairs: separations,
+    };
+    Told::from(sheet::write(sheet, separations, text))
 }
 
 #[unsafe(no_mangle)]

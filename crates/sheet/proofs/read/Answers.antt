@@ -1,33 +1,23 @@
 -- `sheet::read` meets its contract: each refusal leaves the tables, and an accepted text fills them. Assumes nothing.
-use mathlib.Core.Path.{refl, sym, ◌∙◌}
-use Rattle.reader.specs.Fill.{tables, LongTables}
-use Rattle.sheet.proofs.ReadDone.{lengths_passed}
-use Rattle.sheet.proofs.ReadReturns.{short_refused, long_text, line_refused, tables_filled}
+use Rattle.checking.proofs.Turns.{refused_with}
+use Rattle.sheet.proofs.ReadReturns.{lengths_refused, lengths_checked, line_refused, tables_filled}
 use Rattle.sheet.proofs.read.Goals as goal
-use Rattle.sheet.proofs.read.Goals.{Else-refusal-ne0}
+use Rattle.sheet.proofs.read.Goals.{In_ok-check_lengths}
 
--- the buffers that passed have their least lengths
-long : (c : Else-refusal-ne0) →
-    let a = c.args in LongTables (tables a.assignment.now a.permission.now a.separations.now)
-long c = lengths_passed _ (sym (c.length_refusal-refusal.ensures _ refl refl refl) ∙ c.if-refusal-ne0.false)
+pub returns-in_err-check_lengths : goal.returns-in_err-check_lengths
+returns-in_err-check_lengths c =
+    let stop = c.in_err-check_lengths.ensures in
+    rw (refused_with _ _ c.from_residual.ensures.1) (lengths_refused _ _ _ stop.0 stop.1)
 
-pub returns-then-refusal-ne0 : goal.returns-then-refusal-ne0
-returns-then-refusal-ne0 c = rw c.refused_reading.ensures (short_refused _ _ _ (c.length_refusal-refusal.ensures _ refl refl refl) c.if-refusal-ne0.true)
+pub returns-in_err-passed : goal.returns-in_err-passed
+returns-in_err-passed c =
+    let lengths = lengths_checked _ _ c.in_ok-check_lengths.ensures in
+    rw (refused_with _ _ c.from_residual-in_err-passed.ensures.1) (line_refused _ _ lengths.0 lengths.1 _ c.in_err-passed.ensures)
 
-pub returns-then-is_over : goal.returns-then-is_over
-returns-then-is_over c = rw c.refused_reading-then-is_over.ensures (long_text _ _ (long (goal.at.returns-then-is_over c).Else-refusal-ne0) c.if-is_over.true)
+pub fill-requires-clause-long_tables : goal.fill-requires-clause-long_tables
+fill-requires-clause-long_tables c = (lengths_checked _ _ c.in_ok-check_lengths.ensures).0
 
-pub fill-requires : goal.fill-requires
-fill-requires c =
-    record {
-      text_value = sym c.check_text-checked.ensures.verdict ∙ c.in-Accepted.is;
-      long_tables = long (goal.at.fill-requires c).Else-refusal-ne0;
-    }
-
-pub returns-in-Refused : goal.returns-in-Refused
-returns-in-Refused c = rw c.refused_reading-in-Refused.ensures (line_refused _ _ (long (goal.at.returns-in-Refused c).Else-refusal-ne0) c.if-is_over.false _ _ (sym c.check_text-checked.ensures.verdict ∙ c.in-Refused.is))
-
-pub returns-in-Accepted : goal.returns-in-Accepted
-returns-in-Accepted c =
-    rw c.accepted_reading.ensures
-    (tables_filled _ _ (long (goal.at.returns-in-Accepted c).Else-refusal-ne0) c.if-is_over.false _ _ c.check_text-checked.ensures c.in-Accepted.is c.fill.ensures)
+pub returns : goal.returns
+returns c =
+    let lengths = lengths_checked _ _ c.in_ok-check_lengths.ensures in
+    tables_filled _ _ lengths.0 lengths.1 _ _ c.in_ok-passed.ensures c.fill.ensures
