@@ -9,11 +9,11 @@ use Rattle.scribe.proofs.write_tables.Goals.{After-put_header, After-put_table, 
 
 -- ---- what is left after each part
 after_header : (c : After-put_header) → let a = c.args in
-    Ahead (lent_by a.sheet) a.count a.separations.now a.text.now (from_assignments (lent_by a.sheet) a.count a.separations.now) c.put_header.new.self
+    Ahead (lent_by a.sheet) a.separations.count a.separations.pairs.now a.text.now (from_assignments (lent_by a.sheet) a.separations.count a.separations.pairs.now) c.put_header.new.self
 after_header c = ahead_less _ _ _ (ahead_all _ _ _ c.requires _ refl) c.put_header.ensures.lines
 
 after_assigned : (c : After-put_table) → let a = c.args in
-    Ahead (lent_by a.sheet) a.count a.separations.now a.text.now (from_permissions (lent_by a.sheet) a.count a.separations.now) c.put_table.new.self
+    Ahead (lent_by a.sheet) a.separations.count a.separations.pairs.now a.text.now (from_permissions (lent_by a.sheet) a.separations.count a.separations.pairs.now) c.put_table.new.self
 unfolding assign_at
 after_assigned c =
     let before = after_header (goal.at.After-put_table c).After-put_header in
@@ -21,7 +21,7 @@ after_assigned c =
     (c.put_table.ensures.lines (assign_at c.args.sheet.counts.roles) (record { made = λ i byte f e. search rules; room = ahead_room _ _ _ _ _ before }))
 
 after_permitted : (c : After-put_table-2) → let a = c.args in
-    Ahead (lent_by a.sheet) a.count a.separations.now a.text.now (from_separations (lent_by a.sheet) a.count a.separations.now) c.put_table-2.new.self
+    Ahead (lent_by a.sheet) a.separations.count a.separations.pairs.now a.text.now (from_separations (lent_by a.sheet) a.separations.count a.separations.pairs.now) c.put_table-2.new.self
 unfolding permit_at
 after_permitted c =
     let before = after_assigned (goal.at.After-put_table-2 c).After-put_table in
@@ -29,7 +29,7 @@ after_permitted c =
     (c.put_table-2.ensures.lines (permit_at c.args.sheet.counts.objects) (record { made = λ i byte f e. search rules; room = ahead_room _ _ _ _ _ before }))
 
 after_separated : (c : After-put_separated) → let a = c.args in
-    Ahead (lent_by a.sheet) a.count a.separations.now a.text.now (from_end (lent_by a.sheet) a.count a.separations.now) c.put_separated.new.self
+    Ahead (lent_by a.sheet) a.separations.count a.separations.pairs.now a.text.now (from_end (lent_by a.sheet) a.separations.count a.separations.pairs.now) c.put_separated.new.self
 after_separated c = ahead_less _ _ _ (after_permitted (goal.at.After-put_separated c).After-put_table-2) c.put_separated.ensures.lines
 
 -- ---- so there is room for the next part

@@ -11,7 +11,7 @@ use Rattle.sheet.proofs.write.Goals as goal
 use Rattle.sheet.proofs.write.Goals.{Joined-separations-lt-LEAST_SEPARATIONS, then-separations-lt-LEAST_SEPARATIONS, else-separations-lt-LEAST_SEPARATIONS, In_ok-check_sheet}
 
 short_is : (c : Joined-separations-lt-LEAST_SEPARATIONS) →
-    c.if-separations-lt-LEAST_SEPARATIONS.short ≡ (shorter c.args.separations.now least_separations || shorter c.args.text.now least_text)
+    c.if-separations-lt-LEAST_SEPARATIONS.short ≡ (shorter c.args.separations.pairs.now least_separations || shorter c.args.text.now least_text)
 short_is c =
     elim c.if-separations-lt-LEAST_SEPARATIONS.branch [
       | then-separations-lt-LEAST_SEPARATIONS w ↦ rw (w.short-is, lt-ltb _ _ w.if-separations-lt-LEAST_SEPARATIONS.true)
@@ -19,10 +19,10 @@ short_is c =
     ]
 
 -- 1, 5 and 11 have passed
-none_of_tables : (c : In_ok-check_sheet) → tables_refusal (lent_by c.args.sheet) c.args.count c.args.separations.now c.args.text.now ≡ 0
+none_of_tables : (c : In_ok-check_sheet) → tables_refusal (lent_by c.args.sheet) c.args.separations.count c.args.separations.pairs.now c.args.text.now ≡ 0
 none_of_tables c = sym (rw (short_is (goal.at.In_ok-check_sheet c).Joined-separations-lt-LEAST_SEPARATIONS) at c.in_ok-check_sheet.ensures)
 
-passed : (c : In_ok-check_sheet) → Writable (lent_by c.args.sheet) c.args.count c.args.separations.now c.args.text.now
+passed : (c : In_ok-check_sheet) → Writable (lent_by c.args.sheet) c.args.separations.count c.args.separations.pairs.now c.args.text.now
 passed c = past_tables _ _ _ _ (none_of_tables c)
 
 pub returns-in_err-check_sheet : goal.returns-in_err-check_sheet
