@@ -18,8 +18,8 @@ use Rattle.tables.specs.FlowTable.{SoundFlow}
 
 module _ (n : ℕ) (table : List ℕ) (x : ℕ) (a : SoundFlow n table) (h : x < n) where
   -- it can be asked about
-  pub asked : Asked n table x x
-  asked = record { accepted = a; source = h; target = h }
+  pub asked : Asked n table x
+  asked = record { accepted = a; below = h }
 
   pub labelling : (label : List ℕ) → least_label ≤ length label → Labelling n table x label
   labelling label room = record { asked = asked; label_room = room }

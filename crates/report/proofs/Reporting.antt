@@ -7,7 +7,11 @@ use native.Mathlib.Decide.{ℕ_discrete}
 use native.Mathlib.Omega.{arith}
 use borrow.Author.Tests.{lt-ltb, le-ltb, ltb-false}
 use lib.ListN.{length}
+use Rattle.std.specs.Prelude.{Result, Ok, Err, IsOk}
 use Rattle.answers.specs.declared.Told.{Told}
+use Rattle.answers.specs.declared.refused.Refused.{Refused as Why}
+use Rattle.answers.specs.Refused.{code}
+use Rattle.answers.proofs.Exits.{some_number}
 use Rattle.answers.specs.Call.{first_refusal, told}
 use Rattle.answers.specs.Rows.{Bytes}
 use Rattle.answers.specs.Sizes.{least_flow, least_assignment, least_permission, least_separations}
@@ -40,11 +44,22 @@ use Rattle.report.proofs.Sizes.{output_fits}
 use Rattle.tables.specs.FlowTable.{SoundFlow}
 
 -- ---- the flow table of an accepted sheet
-module _ (l : Lent) (count : ℕ) (separations : List ℕ) (p : Printable l count separations) (before table : List ℕ) (answer : ℕ) (room : least_flow ≤ length before) (call : Fills l before (answer, table)) where
+module _ (l : Lent) (count : ℕ) (separations : List ℕ) (p : Printable l count separations) (before table : List ℕ) (answer : Result (Unit {0}) Why) (room : least_flow ≤ length before) (call : Fills l before (code answer, table)) where
+  passes : first_refusal (fill_refusals l before) ≡ 0
+  unfolding fill_refusals
+  passes = tables_pass _ _ l (record { not_short = le-ltb _ _ room; not_long = refl; sized = p.sized })
+
+  -- it is not refused
+  pub is_done : IsOk answer
+  is_done = go answer (call.done passes).0
+    where
+      go : (a : Result (Unit {0}) Why) → code a ≡ 0 → IsOk a
+      go (Ok u) e = refl
+      go (Err why) e = absurd (some_number why e)
+
   -- it is filled
   pub is_filled : FlowFilled (sheet_in l) before table
-  unfolding fill_refusals
-  is_filled = (call.done (tables_pass _ _ l (record { not_short = le-ltb _ _ room; not_long = refl; sized = p.sized }))).1
+  is_filled = (call.done passes).1
 
   -- and can be asked
   pub is_accepted : least_flow ≤ length table → SoundFlow (entities l.counts) table

@@ -1,7 +1,6 @@
 -- The line of the verdict: what `judge` tells is what it prints, the line is short, and separations in a buffer are those of the sheet.
 use Prim.Native.Nat.{ℕ, ◌+◌, ◌*◌, ◌/◌, ◌≤◌, ◌<◌}
 use mathlib.Core.Path.{◌≡◌, refl, ap}
-use mathlib.Core.Logic.{◌≢◌}
 use mathlib.Core.List.{List, [], ◌∷◌}
 use native.Mathlib.Omega.{arith}
 use borrow.Author.Tests.{le-ltb}
@@ -15,8 +14,13 @@ use Rattle.answers.proofs.Calls.{pass_then}
 use Rattle.tables.proofs.Accepted.{sheet_numbered, tables_pass, separations_pass}
 use Rattle.access.specs.Channel.{Channel}
 use Rattle.sheet.proofs.Calls.{used_part}
+use Rattle.std.specs.Prelude.{Option, Some, None, Result, Ok, Err, IsOk}
+use Rattle.answers.specs.declared.refused.Refused.{Refused as Why}
+use Rattle.answers.proofs.Exits.{some_number}
+use Rattle.separations.specs.declared.Breach.{Breach}
 use Rattle.separations.specs.declared.Judged.{Judged}
-use Rattle.separations.specs.Judgement.{FirstBroken, Judgement, hold as holds, broken as breaks, Finding}
+use Rattle.separations.proofs.Told.{no_refusal}
+use Rattle.separations.specs.Judgement.{FirstBroken, judged, judged_of, Judgement, hold as holds, broken as breaks, Finding}
 use Rattle.verdict.specs.Judge.{judge_refusals, Judges}
 use Rattle.verdict.proofs.Findings.{finding, holding}
 use Rattle.access.proofs.Longest.{at_most_97}
@@ -24,7 +28,7 @@ use Rattle.output.specs.Output.{VerdictLine, hold, broken}
 use Rattle.report.specs.Inner.{Printable}
 
 -- ---- what `judge` tells
-module _ (l : Lent) (count : ℕ) (separations chain : List ℕ) (j : Judged) (after : List ℕ) (p : Printable l count separations) (room : least_chain ≤ length chain) (call : Judges l count separations chain (j, after)) where
+module _ (l : Lent) (count : ℕ) (separations chain : List ℕ) (r : Result (Option Breach) Why) (after : List ℕ) (p : Printable l count separations) (room : least_chain ≤ length chain) (call : Judges l count separations chain (judged_of r, after)) where
   -- an accepted sheet is not refused
   judged_on : first_refusal (judge_refusals l count separations chain) ≡ 0
   unfolding judge_refusals
@@ -33,19 +37,23 @@ module _ (l : Lent) (count : ℕ) (separations chain : List ℕ) (j : Judged) (a
       (tables_pass _ _ l (record { not_short = rw (le-ltb _ _ p.long, le-ltb _ _ room); not_long = refl; sized = p.sized }))
       (separations_pass _ separations count p.listed)
 
-  pub hold_line : j.answer ≡ 0 → VerdictLine (Channel (sheet_of l count separations)) count separations (0x82 ∷ 0 ∷ [])
-  hold_line e = hold (holding l count separations chain j after call e).0
+  pub is_judged : IsOk r
+  is_judged = go r (call.done judged_on)
+    where
+      go : (r : Result (Option Breach) Why) → Judgement (Channel (sheet_of l count separations)) count separations chain (judged_of r, after) → IsOk r
+      go (Ok found) j = refl
+      go (Err why) (holds all e) = absurd (some_number why (ap (λ (r : Judged × List ℕ). r.0.answer) e))
+      go (Err why) (breaks i k f b e) = absurd (no_refusal why (ap (λ (r : Judged × List ℕ). r.0.answer) e))
 
-  module _ (some : j.answer ≢ 0) where
-    found : Finding (Channel (sheet_of l count separations)) count separations chain j after
-    found = go (call.done judged_on)
-      where
-        go : Judgement (Channel (sheet_of l count separations)) count separations chain (j, after) → Finding (Channel (sheet_of l count separations)) count separations chain j after
-        go (holds all e) = absurd (some (ap (λ (r : Judged × List ℕ). r.0.answer) e))
-        go (breaks i k f b e) = finding l count separations chain j after call (ap (λ (r : Judged × List ℕ). r.0.answer) e)
+  pub hold_line : r ≡ Ok None → VerdictLine (Channel (sheet_of l count separations)) count separations (0x82 ∷ 0 ∷ [])
+  hold_line e = hold (holding l count separations chain (judged_of r) after call (ap (λ r. (judged_of r).answer) e)).0
+
+  module _ (breach : Breach) (e : r ≡ Ok (Some breach)) where
+    found : Finding (Channel (sheet_of l count separations)) count separations chain (judged 14 breach.position breach.count) after
+    found = rw e at (finding l count separations chain (judged_of r) after call (ap (λ r. (judged_of r).answer) e))
 
     -- its numbers are bytes
-    pub broken_small : (j.position < 256) × (j.count ≤ 97)
+    pub broken_small : (breach.position < 256) × (breach.count ≤ 97)
     unfolding sheet_of
     broken_small = (
       omega (arith, found.first.below, p.listed.few),
@@ -53,11 +61,11 @@ module _ (l : Lent) (count : ℕ) (separations chain : List ℕ) (j : Judged) (a
     )
 
     -- and its chain is in the buffer
-    pub broken_line : VerdictLine (Channel (sheet_of l count separations)) count separations (0x82 ∷ 1 ∷ j.position ∷ j.count ∷ take j.count after)
+    pub broken_line : VerdictLine (Channel (sheet_of l count separations)) count separations (0x82 ∷ 1 ∷ breach.position ∷ breach.count ∷ take breach.count after)
     broken_line = of_finding found
       where
-        of_finding : Finding (Channel (sheet_of l count separations)) count separations chain j after →
-            VerdictLine (Channel (sheet_of l count separations)) count separations (0x82 ∷ 1 ∷ j.position ∷ j.count ∷ take j.count after)
+        of_finding : Finding (Channel (sheet_of l count separations)) count separations chain (judged 14 breach.position breach.count) after →
+            VerdictLine (Channel (sheet_of l count separations)) count separations (0x82 ∷ 1 ∷ breach.position ∷ breach.count ∷ take breach.count after)
         of_finding f = rw (f.counted, f.written, used_part f.chain chain _ refl) (broken f.first f.best)
 
 -- ---- the line has at most 101 bytes

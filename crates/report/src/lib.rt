@@ -113,13 +113,9 @@ fn put_refusal(out: &mut [u8], refused: RefusedText) -> usize
     requires { (refused.line < 65536) × (9 ≤ length out.old) }
     ensures { Put (refusal_line (number refused.why) refused.line) 0 out.old result out.new }
 {
+    let number = u8::from(refused.why);
     let line = refused.line;
-    let bytes = [
-        REFUSED,
-        refused.why as u8,
-        (line / 256) as u8,
-        (line % 256) as u8,
-    ];
+    let bytes = [REFUSED, number, (line / 256) as u8, (line % 256) as u8];
     digits::put_line(out, 0, &bytes)
 }
 

@@ -11,7 +11,7 @@ use Rattle.separations.specs.declared.Breach.{Breach}
 use Rattle.separations.specs.Judgement.{judged_of}
 
 -- 14 is no refusal
-no_refusal : (why : Why) → number why ≢ 14
+pub no_refusal : (why : Why) → number why ≢ 14
 no_refusal ShortBuffer e = omega arith
 no_refusal NoBytes e = omega arith
 no_refusal NoFrame e = omega arith

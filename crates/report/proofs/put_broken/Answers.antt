@@ -13,7 +13,7 @@ slice_bounds-put_line-end c =
 pub put_line-requires : goal.put_line-requires
 unfolding to_digits
 put_line-requires c =
-    omega (arith, c.requires, c.put_bytes-end.ensures.place, length-take-le c.args.count c.args.chain.now (omega (arith, c.requires)))
+    omega (arith, c.requires, c.put_bytes-end.ensures.place, length-take-le c.args.breach.count c.args.chain.now (omega (arith, c.requires)))
 
 pub returns : goal.returns
 returns c = line_then _ _ c.put_bytes-end.ensures c.put_line.ensures

@@ -8,9 +8,6 @@ use Rattle.report.proofs.put_entity.Goals.{After-label_size-size}
 pub smallest_member-class-requires : goal.smallest_member-class-requires
 smallest_member-class-requires c = asked _ _ _ c.requires.accepted c.requires.entity
 
-pub flags-flags-requires : goal.flags-flags-requires
-flags-flags-requires c = asked _ _ _ c.requires.accepted c.requires.entity
-
 -- what was asked before the line is made: each answer is a byte
 answers_small : (c : After-label_size-size) → (c.smallest_member-class.result < 256) × (c.flags-flags.result < 256) × (c.label_size-size.result < 256)
 answers_small c =

@@ -4,4 +4,4 @@ use Rattle.report.proofs.put_refusal.Goals as goal
 
 pub returns : goal.returns
 unfolding refusal_line
-returns c = c.put_line.ensures
+returns c = rw c.from-number.ensures at c.put_line.ensures
