@@ -69,7 +69,7 @@ pub fn show_chain(channels: Square, x: usize, y: usize, chain: &mut [u8]) -> Opt
     let mut at = x;
     chain[0] = at as u8;
     for d in (0..distance).rev() {
-        // there is always one: `at` is at distance d + 1
+        // never none, since `at` is at distance d + 1
         at = next_at(channels, at, d, &dist)?;
         chain[distance - d] = at as u8;
     }

@@ -36,8 +36,8 @@ fn first_broken(channels: Square, count: usize, separations: &[u8]) -> Option<us
     requires { Searchable channels.n count separations.now }
     ensures { Smallest (λ i. Broken (Bytes channels.entry.n channels.entry.bytes.now) separations.now i) count result }
 {
-    let mut places = [0; MOST_ENTITIES];
-    let row = &mut places[..channels.n];
+    let mut bytes = [0; MOST_ENTITIES];
+    let row = &mut bytes[..channels.n];
     let mut held = None;
     for i in 0..count {
         let (x, y) = separation(separations, i);
@@ -62,6 +62,7 @@ pub fn judge_channels(
 {
     let position = first_broken(channels, count, separations)?;
     let (x, y) = separation(separations, position);
+    // never none, since data of x reaches y
     let count = chains::show_chain(channels, x, y, chain)?;
     Some(Finding { position, count })
 }
