@@ -10,7 +10,7 @@ use lib.ListN.{length}
 use Rattle.std.specs.Prelude.{Result, Ok, Err, IsOk}
 use Rattle.answers.specs.declared.Told.{Told}
 use Rattle.answers.specs.declared.refused.Refused.{Refused as Why}
-use Rattle.answers.specs.Refused.{code}
+use Rattle.answers.specs.Refused.{code, told_of}
 use Rattle.answers.proofs.Exits.{some_number}
 use Rattle.answers.specs.Call.{first_refusal, told}
 use Rattle.answers.specs.Rows.{Bytes}
@@ -142,7 +142,13 @@ module _ (text before : List ℕ) where
         PutOutput (SheetLines (sheet_read result)) before next after → Reports text before (told 0 next, after)
     sheet_reported d p = reported (sheet_printed d p.right) p.put
 
--- ---- for those who print it: the told length is within the buffer
+-- ---- for those who print it: with room there is an output, and the told length is within the buffer
+pub is_reported : (text before : List ℕ) (r : Result ℕ Why) (after : List ℕ) → least_output ≤ length before → Reports text before (told_of r, after) → IsOk r
+unfolding report_refusals first_refusal
+is_reported text before (Ok size) after room call = refl
+is_reported text before (Err why) after room call =
+    absurd (some_number why (ap (λ (r : Told × List ℕ). r.0.answer) (call.done (rw (le-ltb _ _ room))).written))
+
 pub size_within : (text before : List ℕ) (r : Told × List ℕ) → Reports text before r → r.0.value ≤ length before
 unfolding report_refusals
 size_within text before r call = go (ℕ_discrete (first_refusal (report_refusals before)) 0)

@@ -5,7 +5,7 @@ use Rattle.report.proofs.Reporting.{size_within}
 use Rattle.flowsheet.proofs.print.Goals as goal
 
 pub slice_bounds-out-end : goal.slice_bounds-out-end
-slice_bounds-out-end g c = omega (arith, size_within _ _ _ c.report-told.ensures)
+slice_bounds-out-end g c = omega (arith, size_within _ _ _ c.report.ensures)
 
 pub slice_bounds-write_all-end : goal.slice_bounds-write_all-end
-slice_bounds-write_all-end g c = sym (length-take-le _ c.report-told.new.out (omega (arith, size_within _ _ _ c.report-told.ensures)))
+slice_bounds-write_all-end g c = sym (length-take-le _ c.report-told.new.out (omega (arith, size_within _ _ _ c.report.ensures)))
