@@ -1,5 +1,5 @@
 -- A digit and its value, and digits and the bytes that they stand for, there and back.
-use Prim.Native.Nat.{ℕ, suc, ◌+◌, ◌-◌, ◌/◌, ◌%◌, ◌≤◌, ◌<◌}
+use Prim.Native.Nat.{ℕ, ◌+◌, ◌-◌, ◌/◌, ◌%◌, ◌≤◌, ◌<◌}
 use mathlib.Core.Path.{◌≡◌, ap₂, refl, ◌∙◌}
 use mathlib.Core.Bool.{Bool, true, false, ◌&&◌, ◌||◌, false≢true}
 use mathlib.Core.List.{List, [], ◌∷◌}
@@ -9,7 +9,6 @@ use native.Mathlib.Nat.{div-add-mod'}
 use native.Mathlib.Decide.{dec_lt}
 use lib.Arith.{digits_div, digits_mod}
 use lib.Dec.{leb}
-use lib.ListN.{length, get_or}
 use borrow.Author.Tests.{leb-true, le-leb, lt-leb, lt-ltb, le-ltb}
 use Rattle.digits.specs.Digit.{is_digit, digit_value, digit_byte, digit_pairs, to_bytes, to_digits}
 
@@ -17,11 +16,6 @@ use Rattle.digits.specs.Digit.{is_digit, digit_value, digit_byte, digit_pairs, t
 unfoldable pub Bytes : List ℕ → Type 0
 Bytes [] = Unit {0}
 Bytes (b ∷ t) = (b < 256) × Bytes t
-
-pub bytes_of : (bs : List ℕ) → ((i : ℕ) → i < length bs → get_or bs i 0 < 256) → Bytes bs
-unfolding Bytes
-bytes_of [] each = tt
-bytes_of (b ∷ t) each = (each 0 (omega arith), bytes_of t (λ i h. each (suc i) (omega arith)))
 
 pub both_true : (a b : Bool) → a && b ≡ true → (a ≡ true) × (b ≡ true)
 both_true true b e = (refl, e)

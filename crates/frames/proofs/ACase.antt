@@ -5,15 +5,16 @@ use mathlib.Core.Path.{◌≡◌, refl}
 use mathlib.Core.Bool.{true, false}
 use mathlib.Core.List.{List, [], ◌∷◌, ◌++◌, map}
 use Rattle.std.specs.Prelude.{Ok, Err}
-use Rattle.answers.specs.declared.refused.Refused.TheVariants.{NoBytes, NoFrame}
+use Rattle.answers.specs.declared.refused.Refused.TheVariants.{NoBytes, NoFrame, NoEnd}
 use Rattle.tables.specs.Sheet.{counts}
 use Rattle.digits.specs.Digit.{is_digit, digit_value, digit_byte, digit_pairs, to_bytes, to_digits}
 use Rattle.digits.specs.Line.{joined, lines, non_empty, sound_line, line_of}
 use Rattle.digits.specs.Text.{codes}
+use Rattle.frames.specs.declared.Passed.{Passed}
 use Rattle.frames.specs.declared.Frame.{Frame}
 use Rattle.frames.specs.declared.Frame.TheVariants.{Header, Assign, Permit, Separate, End}
 use Rattle.frames.specs.Frame.{frame_bytes, of_three, of_four, frame_of, parse, text_of, key}
-use Rattle.frames.specs.Check.{passed, start, next, next_line, parsed_lines, frames_of, Refused, Accepted}
+use Rattle.frames.specs.Check.{passed, start, next, next_line, parsed_lines, frames_of, Refused, Accepted, checked}
 use Rattle.frames.proofs.Verdicts.{bytes_verdict, verdict, separated}
 
 pub record Passing : Type 0 where
@@ -222,3 +223,12 @@ known =
       no_bytes = refl;
       no_frame = refl;
     }
+
+-- "Where an answer is an enum, a definition gives this paper's number and values for each of its cases": no end line after two lines, and
+-- a text that is accepted
+pub record AsCode : Type 0 where
+  refused : checked {T = Passed} (Err (record { why = NoEnd; line = 3 })) ≡ Refused 9 3
+  accepted : checked (Ok (passed 2 true (counts 3 4 5) 327682 0)) ≡ Accepted
+
+pub as_code : AsCode
+as_code = record { refused = refl; accepted = refl }

@@ -96,7 +96,7 @@ unfoldable pub next_line : Passed → Parsed → Passed
 next_line k (Err why) = k
 next_line k (Ok f) = next k f
 
--- what a whole text comes to: a refusal by its number and its line, or none
+-- "the first faulty line decides": what a whole text comes to, a refusal by its number and its line, or none
 pub data CheckedText : Type 0 where
   Refused : ℕ → ℕ → CheckedText
   Accepted : CheckedText
