@@ -1,11 +1,11 @@
 -- A row that can be chosen lies within either table, and the three answers of `chosen_row`.
-use Prim.Native.Nat.{ℕ, suc, ◌+◌, ◌*◌, ◌≤◌}
+use Prim.Native.Nat.{ℕ, suc, ◌+◌, ◌*◌, ◌≤◌, ◌<◌}
 use mathlib.Core.Path.{◌≡◌, refl}
 use mathlib.Core.Bool.{Bool, true, false, ◌&&◌, false≢true}
 use mathlib.Core.List.{List}
 use native.Mathlib.Nat.{mul-le-mul}
 use native.Mathlib.Omega.{arith}
-use borrow.Author.Tests.{ltb-true, leb-true, eq-eqb, ne_eqb}
+use borrow.Author.Tests.{ltb-true, leb-true, lt-ltb, le-ltb, lt-leb, le-leb, eq-eqb, ne_eqb}
 use lib.Dec.{ltb, leb}
 use lib.ListN.{length}
 use denote.Ref.{Bor}
@@ -16,6 +16,31 @@ use Rattle.effects.specs.ChosenRow.{can_choose, ChosenRow}
 both : (a b : Bool) → (a && b) ≡ true → (a ≡ true) × (b ≡ true)
 both true b e = (refl, e)
 both false b e = absurd (false≢true e)
+
+-- ---- what is bad, one after the other
+module _ (before after : List ℕ) (n choice x : ℕ) where
+  -- "a bad choice": it is none of 0 and 1
+  pub bad_choice : 2 ≤ choice → false ≡ can_choose before after n choice x
+  unfolding can_choose
+  bad_choice c = rw (le-ltb choice 2 c)
+
+  module _ (c : choice < 2) where
+    -- "a bad .. number": it is not below N
+    pub bad_number : n ≤ x → false ≡ can_choose before after n choice x
+    unfolding can_choose
+    bad_number h = rw (lt-ltb choice 2 c, le-ltb x n h)
+
+    module _ (h : x < n) where
+      -- "a bad .. count": N is above 112
+      pub bad_count : most_entities < n → false ≡ can_choose before after n choice x
+      unfolding can_choose
+      bad_count m = rw (lt-ltb choice 2 c, lt-ltb x n h, lt-leb n most_entities m)
+
+      module _ (m : n ≤ most_entities) where
+        -- "a bad .. length": the before table is too short
+        pub bad_length : length before < least_flow → false ≡ can_choose before after n choice x
+        unfolding can_choose
+        bad_length b = rw (lt-ltb choice 2 c, lt-ltb x n h, le-leb n most_entities m, lt-leb least_flow (length before) b)
 
 -- ---- a row that can be chosen ends within 12,544, and so within either table
 pub record Fitting (before after : List ℕ) (n x : ℕ) : Type 0 where

@@ -65,14 +65,16 @@ fn rehearse(transfers: &[u8], applied: u32) -> Result<(), Refused> {
         assignment: &[0; sizes::LEAST_ASSIGNMENT],
         permission: &[0; sizes::LEAST_PERMISSION],
     };
-    let mut tally = Tally {
+    let tally = Tally {
         applied,
         outside: 0,
         barred: 0,
     };
     let mut marks = [0; sizes::LEAST_MARKS];
     let mut verdicts = [0; sizes::LEAST_VERDICTS];
-    rehearsal::rehearse(nothing, transfers, &mut marks, &mut verdicts, &mut tally).map(|_| ())
+    let (answer, _) =
+        rehearsal::rehearse_tallied(nothing, transfers, &mut marks, &mut verdicts, tally);
+    answer.map(|_| ())
 }
 
 fn rehearse_start(list: &[u8], transfers: usize) -> Result<(), Refused>

@@ -1,9 +1,8 @@
 -- The calls of a rehearsal: their refusals, and their contracts.
-use Rattle.std.specs.Prelude.{ℕ, ◌%◌, not, List, [], ◌∷◌, eqb, length, Result}
-use Rattle.answers.specs.declared.refused.Refused.{Refused}
+use Rattle.std.specs.Prelude.{ℕ, ◌%◌, not, List, [], ◌∷◌, eqb, length}
+use Rattle.answers.specs.declared.Told.{Told}
 use Rattle.answers.specs.Sizes.{most_transfers, most_transfer_bytes}
 use Rattle.answers.specs.Call.{Refusal, ◌if◌, ◌then◌, Outcome, Loan, MutLoan}
-use Rattle.answers.specs.Refused.{told_of}
 use Rattle.answers.specs.Rows.{exceeds}
 use Rattle.tables.specs.Sheet.{Lent, sheet_in}
 use Rattle.tables.specs.Refusals.{sheet_refusals}
@@ -40,14 +39,14 @@ RehearsesRecords l transfers marks verdicts t =
 -- ---- what a call leaves
 -- of a call with its tally by value
 abbrev pub WithTally : {T : Type 0} → (Lent → List T → List ℕ → List ℕ → Tally → Rehearsed → Type 0) →
-    Lent → Loan (List T) → (marks verdicts : MutLoan (List ℕ)) → Tally → Result ℕ Refused × Tally → Type 0
+    Lent → Loan (List T) → (marks verdicts : MutLoan (List ℕ)) → Tally → Told × Tally → Type 0
 WithTally Call l transfers marks verdicts tally r =
     Call l transfers.entry.now marks.entry.now verdicts.entry.now
-    tally (rehearsed_with (told_of r.0) marks.exit.now verdicts.exit.now r.1)
+    tally (rehearsed_with r.0 marks.exit.now verdicts.exit.now r.1)
 
 -- of a call with a lent tally
 abbrev pub WithLentTally : {T : Type 0} → (Lent → List T → List ℕ → List ℕ → Tally → Rehearsed → Type 0) →
-    Lent → Loan (List T) → (marks verdicts : MutLoan (List ℕ)) → MutLoan Tally → Result ℕ Refused → Type 0
+    Lent → Loan (List T) → (marks verdicts : MutLoan (List ℕ)) → MutLoan Tally → Told → Type 0
 WithLentTally Call l transfers marks verdicts tally r =
     Call l transfers.entry.now marks.entry.now verdicts.entry.now
-    tally.entry.now (rehearsed_with (told_of r) marks.exit.now verdicts.exit.now tally.exit.now)
+    tally.entry.now (rehearsed_with r marks.exit.now verdicts.exit.now tally.exit.now)

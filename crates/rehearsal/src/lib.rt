@@ -2,6 +2,7 @@
 #![tactic(auto)]
 
 ghost use Rattle.std.specs.Prelude.{◌≡◌};
+ghost use Rattle.answers.specs.Refused.{told_of};
 ghost use Rattle.tables.specs.Sheet.{lent_by};
 ghost use Rattle.transfers.specs.Rehearse.{new_tally};
 ghost use Rattle.rehearsal.specs.Calls.{RehearsesFlat, RehearsesRecords, WithTally, WithLentTally};
@@ -25,7 +26,7 @@ pub fn rehearse(
     verdicts: &mut [u8],
     tally: &mut Tally,
 ) -> Result<usize, Refused>
-    ensures { WithLentTally RehearsesFlat (lent_by sheet.entry) transfers marks verdicts tally result }
+    ensures { WithLentTally RehearsesFlat (lent_by sheet.entry) transfers marks verdicts tally (told_of result) }
 {
     runs::rehearse_list(sheet, transfers, marks, verdicts, tally)
 }
@@ -38,7 +39,7 @@ pub fn rehearse_records(
     verdicts: &mut [u8],
     tally: &mut Tally,
 ) -> Result<usize, Refused>
-    ensures { WithLentTally RehearsesRecords (lent_by sheet.entry) records marks verdicts tally result }
+    ensures { WithLentTally RehearsesRecords (lent_by sheet.entry) records marks verdicts tally (told_of result) }
 {
     runs::rehearse_list(sheet, records, marks, verdicts, tally)
 }
@@ -51,7 +52,7 @@ pub fn rehearse_tallied(
     verdicts: &mut [u8],
     mut tally: Tally,
 ) -> (Result<usize, Refused>, Tally)
-    ensures { WithTally RehearsesFlat (lent_by sheet.entry) transfers marks verdicts tally result }
+    ensures { WithTally RehearsesFlat (lent_by sheet.entry) transfers marks verdicts tally (told_of result.0, result.1) }
 {
     let answer = rehearse(sheet, transfers, marks, verdicts, &mut tally);
     (answer, tally)

@@ -1,7 +1,8 @@
 -- What each question answers on a flow table of n entities whose bytes are a relation R, as those of the table that filling wrote are
 -- the sheet's flow.
-use Rattle.std.specs.Prelude.{ℕ, ◌≤◌, ◌≡◌, List, length, take, drop}
+use Rattle.std.specs.Prelude.{ℕ, ◌≤◌, ◌≡◌, List, length, take, drop, Result}
 use Rattle.answers.specs.declared.Told.{Told}
+use Rattle.answers.specs.declared.refused.Refused.{Refused as Why}
 use Rattle.answers.specs.Sizes.{least_label}
 use Rattle.answers.specs.Rows.{Mark}
 use Rattle.theory.specs.Order.{Label, LabelSize, ClassName, Order, Compares, Greatest}
@@ -27,6 +28,6 @@ pub record QuestionsTell (n : ℕ) (R : ℕ → ℕ → Type 0) (table : List �
   -- "A class is named by its smallest member"
   pub class_name : (r : Told) → Names n table x r → Answered (ClassName n R x) r
   -- "Two entities compare as equal (equivalent), below .., above .. or incomparable"
-  pub compare : (r : Compared) → ComparesTo n table x y r → (o : Order) × Compares R x y o × (comparison r ≡ compared o)
+  pub compare : (r : Result Compared Why) → ComparesTo n table x y r → (o : Order) × Compares R x y o × (comparison r ≡ compared o)
   -- "Greatest secrecy: the entity flows to nothing but itself. Greatest integrity: nothing but itself flows into it."
   pub greatest : (r : Told) → Flags n table x r → Answered (Greatest n R x) r

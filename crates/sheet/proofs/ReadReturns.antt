@@ -1,6 +1,7 @@
 -- Each way out of `read`: a short buffer, a text over its size, a refused line, and tables that are filled.
 use Prim.Native.Nat.{ℕ, zero, suc, ◌/◌, ◌≤◌, ◌<◌}
 use mathlib.Core.Path.{◌≡◌, refl, sym, ◌∙◌}
+use mathlib.Core.Logic.{◌≢◌}
 use mathlib.Core.Bool.{Bool, true, false}
 use mathlib.Core.List.{List, [], ◌∷◌}
 use native.Mathlib.Nat.{suc-ne-zero}
@@ -35,6 +36,10 @@ filled_as before after k t c f =
 
 -- ---- the ways out
 module _ (text : List ℕ) (before : Tables) where
+  -- "1, then 5 for the text length, both with line 0": what 1 refuses is told with line 0, whatever the text
+  pub short_refused : (n : ℕ) → n ≡ first_refusal (read_refusals before) → n ≢ 0 → Reads text before (not_read before n 0)
+  short_refused n e some = refuse n e some refl
+
   pub lengths_checked : lengths_refusal text before ≡ 0 → LongTables before × (length text ≤ most_text)
   unfolding read_refusals
   lengths_checked e =

@@ -5,6 +5,7 @@
 // order as a number, and `refused_line` and `chosen_row` put the part itself, its place and its length, where the caller says.
 #![tactic(auto)]
 
+ghost use Rattle.tables.specs.Sheet.{lent};
 ghost use Rattle.rehearsal.specs.Calls.{RehearsesFlat, RehearsesRecords, WithLentTally};
 
 use answers::Told;
@@ -199,7 +200,7 @@ pub extern "C" fn testface_rehearse(
     verdicts: &mut [u8],
     tally: &mut Tally,
 ) -> Told
-    ensures { WithLentTally RehearsesFlat counts assignment permission transfers marks verdicts tally result }
+    ensures { WithLentTally RehearsesFlat (lent counts assignment.now permission.now) transfers marks verdicts tally result }
 {
     let sheet = LentSheet {
         counts,
@@ -219,7 +220,7 @@ pub extern "C" fn testface_rehearse_records(
     verdicts: &mut [u8],
     tally: &mut Tally,
 ) -> Told
-    ensures { WithLentTally RehearsesRecords counts assignment permission records marks verdicts tally result }
+    ensures { WithLentTally RehearsesRecords (lent counts assignment.now permission.now) records marks verdicts tally result }
 {
     let sheet = LentSheet {
         counts,
