@@ -72,7 +72,7 @@ class Tree:
         for path, text in files("crates/*/src/**/*.rt").items():
             for name, public, whole in functions(text):
                 name = "%s::%s" % (crate_of(path), name)
-                self.twice += [name] if name in self.functions else []
+                self.twice += [name] if public and name in self.functions else []
                 self.functions[name] = (public, whole)
 
 

@@ -60,13 +60,6 @@ by_second (r ∷ l) m t e = go r.number r.test t e (by_second l m)
     go n true t e rest = absurd (let h : 0 < n = lit< (parts (ltb 0 n) (numbered l) t).0 in omega arith)
     go n false t e rest = rest (parts (ltb 0 n) (numbered l) t).1 e
 
--- the same of the numbers k and n that functions answer for the two lists
-pub first_refuses : (l m : List Refusal) (k : ℕ) → k ≡ first_refusal l → k ≢ 0 → k ≡ first_refusal (l then m)
-first_refuses l m k e some = e ∙ sym (by_first l m (λ none. some (e ∙ none)))
-
-pub second_decides : (l m : List Refusal) (k n : ℕ) → T (numbered l) → k ≡ first_refusal l → k ≡ 0 → n ≡ first_refusal m → n ≡ first_refusal (l then m)
-second_decides l m k n t e none f = f ∙ sym (by_second l m t (sym e ∙ none))
-
 -- two lists pass exactly if both do
 pub passed_then : (l m : List Refusal) → T (numbered l) → first_refusal (l then m) ≡ 0 → (first_refusal l ≡ 0) × (first_refusal m ≡ 0)
 passed_then l m t e = go (first_refusal l) refl

@@ -72,6 +72,7 @@ one_code (Ok a) (Err b) e = absurd (some_number b (sym e))
 one_code (Err a) (Ok b) e = absurd (some_number a e)
 one_code (Err a) (Err b) e = ap Err (one_number a b e)
 
+-- the same of an answer with a value
 pub one_told : (r s : Result ℕ Why) → told_of r ≡ told_of s → r ≡ s
 one_told (Ok v) (Ok w) e = ap (λ t. Ok t.value) e
 one_told (Ok v) (Err b) e = absurd (some_number b (sym (ap (λ t. t.answer) e)))

@@ -33,10 +33,6 @@ pub mark_of : {P : Type 0} {b : ℕ} → Mark P b → P → b ≡ 1
 mark_of (one e p) q = e
 mark_of (none e p) q = absurd (p q)
 
--- a mark that is tested for the other value
-pub marked_unless : {P : Type 0} {b : ℕ} → Mark P b → (b ≡ 1 → ⊥) → P → ⊥
-marked_unless m other p = other (mark_of m p)
-
 pub marked_other : {P : Type 0} {b : ℕ} → Mark P b → (b ≡ 0 → ⊥) → P
 marked_other (one e p) other = p
 marked_other (none e p) other = absurd (other e)

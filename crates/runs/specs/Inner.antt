@@ -65,5 +65,6 @@ pub record Raisable (counts t : Tally) : Type 0 where
   pub outside : t.outside ≤ most_tallied
   pub barred : t.barred ≤ most_tallied
 
+-- a tally raised by the counts of a rehearsal
 abbrev pub raised_by : Tally → Tally → Tally
 raised_by counts t = tally (t.applied + counts.applied) (t.outside + counts.outside) (t.barred + counts.barred)

@@ -38,6 +38,7 @@ pub record State : Type 0 where
   pub verdicts : List ℕ
   pub counts : Tally
 
+-- marks, verdict bytes and counts, at one time
 abbrev pub state_of : List ℕ → List ℕ → Tally → State
 state_of marks verdicts counts = record { marks = marks; verdicts = verdicts; counts = counts }
 

@@ -47,9 +47,6 @@ flow_passed short n table e =
 pub square_within : (n : ℕ) (table : List ℕ) → SizedFlow n table → n * n ≤ length table
 square_within n table s = product_within n n 112 112 _ s.few s.few s.room
 
-pub byte_within : (n : ℕ) (table : List ℕ) → SizedFlow n table → (x y : ℕ) → x < n → y < n → x * n + y < 12544
-byte_within n table s x y hx hy = place_below x y n n 12544 hx hy (product_within n n 112 112 _ s.few s.few (omega arith))
-
 -- a sound flow table passes
 module _ (n : ℕ) (table : List ℕ) (a : SoundFlow n table) where
   pub bytes_pass : first_refusal (byte_refusals n table) ≡ 0
