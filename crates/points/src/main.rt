@@ -72,8 +72,13 @@ fn rehearse(transfers: &[u8], applied: u32) -> Result<(), Refused> {
     };
     let mut marks = [0; sizes::LEAST_MARKS];
     let mut verdicts = [0; sizes::LEAST_VERDICTS];
-    let (answer, _) =
-        rehearsal::rehearse_tallied(nothing, transfers, &mut marks, &mut verdicts, tally);
+    let (answer, _) = rehearsal::rehearse_tallied(
+        nothing,
+        transfers,
+        &mut marks,
+        &mut verdicts,
+        tally,
+    );
     answer.map(|_| ())
 }
 

@@ -13,7 +13,7 @@ ghost use Rattle.refusals.specs.Inner.{Measured};
 
 use answers::refused::{Refused, first_refused};
 use answers::{Square, sizes};
-use tables::{Counts, Separations, LentSheet};
+use tables::{Counts, LentSheet, Separations};
 
 // What a call says of its other buffers, if it has none.
 pub const NO_OTHER: bool = false;

@@ -105,14 +105,11 @@ pub fn read(
 // ---- writing, and the refused line
 
 // Writes the one text of the sheet in the tables at the start of `text`. The answer is the text's length.
-pub fn write(
-    sheet: LentSheet,
-    separations: Separations,
-    text: &mut [u8],
-) -> Result<usize, Refused>
+pub fn write(sheet: LentSheet, separations: Separations, text: &mut [u8]) -> Result<usize, Refused>
     ensures { Writes (lent_by sheet.entry) separations.entry.count separations.entry.pairs.now text.old (told_of result, text.new) }
 {
-    let short = separations.pairs.len() < sizes::LEAST_SEPARATIONS || text.len() < sizes::LEAST_TEXT;
+    let short = separations.pairs.len() < sizes::LEAST_SEPARATIONS
+        || text.len() < sizes::LEAST_TEXT;
     refusals::check_sheet(short, refusals::NO_LIST, sheet)?;
     refusals::check_separations(sheet.counts.entities(), separations)?;
     let size = scribe::write_tables(sheet, separations, text);

@@ -8,7 +8,7 @@ ghost use Rattle.sievemarl.specs.ForC.{FillsForC, JudgesForC};
 
 use answers::refused::answer_of;
 use separations::Judged;
-use tables::{Counts, Separations, LentSheet};
+use tables::{Counts, LentSheet, Separations};
 
 // What judging answers, as one number.
 fn pack(j: Judged) -> u32

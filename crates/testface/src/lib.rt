@@ -13,7 +13,7 @@ use answers::refused::answer_of;
 use questions::Compared;
 use separations::Judged;
 use sheet::Reading;
-use tables::{Counts, Separations, LentSheet};
+use tables::{Counts, LentSheet, Separations};
 use transfers::{Tally, Transfer};
 
 #[unsafe(no_mangle)]
@@ -128,9 +128,7 @@ pub extern "C" fn testface_set_assignment(
     r: usize,
     value: u8,
 ) -> u8 {
-    answer_of(change::set_assignment(
-        counts, assignment, permission, s, r, value,
-    ))
+    answer_of(change::set_assignment(counts, assignment, permission, s, r, value))
 }
 
 #[unsafe(no_mangle)]
@@ -142,9 +140,7 @@ pub extern "C" fn testface_set_permission(
     o: usize,
     mode: u8,
 ) -> u8 {
-    answer_of(change::set_permission(
-        counts, assignment, permission, r, o, mode,
-    ))
+    answer_of(change::set_permission(counts, assignment, permission, r, o, mode))
 }
 
 #[unsafe(no_mangle)]
@@ -227,9 +223,7 @@ pub extern "C" fn testface_rehearse_records(
         assignment,
         permission,
     };
-    Told::from(rehearsal::rehearse_records(
-        sheet, records, marks, verdicts, tally,
-    ))
+    Told::from(rehearsal::rehearse_records(sheet, records, marks, verdicts, tally))
 }
 
 #[unsafe(no_mangle)]

@@ -17,7 +17,7 @@ ghost use Rattle.verdict.specs.Inner.{Showable, Judgeable, SheetVerdict};
 use answers::refused::{Refused, first_refused};
 use answers::{Square, sizes};
 use separations::Breach;
-use tables::{Separations, LentSheet};
+use tables::{LentSheet, Separations};
 
 // 1, 5, 11 or 10 of a call that asks for a chain.
 fn check_chain(sheet: LentSheet, x: usize, y: usize, chain: &[u8]) -> Result<(), Refused>
@@ -65,7 +65,11 @@ fn some_short(pairs: &[u8], chain: &[u8]) -> bool
 fn check_judge(sheet: LentSheet, separations: Separations, chain: &[u8]) -> Result<(), Refused>
     ensures { code result ≡ first_refusal (judge_refusals (lent_by sheet.entry) separations.entry.count separations.entry.pairs.now chain.now) }
 {
-    refusals::check_sheet(some_short(separations.pairs, chain), refusals::NO_LIST, sheet)?;
+    refusals::check_sheet(
+        some_short(separations.pairs, chain),
+        refusals::NO_LIST,
+        sheet,
+    )?;
     refusals::check_separations(sheet.counts.entities(), separations)
 }
 
