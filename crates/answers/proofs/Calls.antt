@@ -6,10 +6,8 @@ use mathlib.Core.Bool.{Bool, true, false, ◌&&◌, cond}
 use mathlib.Core.List.{List, [], ◌∷◌}
 use Prim.Native.Nat.{ℕ, zero, suc, ◌<◌}
 use native.Mathlib.Nat.{suc-ne-zero}
-use native.Mathlib.Decide.{ℕ_discrete}
 use native.Mathlib.Omega.{arith}
-use borrow.Author.Tests.{eq-eqb, ne_eqb}
-use lib.Dec.{T, ltb, eqb, lit<}
+use lib.Dec.{T, ltb, lit<}
 use Rattle.answers.specs.Call.{Refusal, ◌if◌, ◌then◌, first_refusal, Outcome}
 
 -- no refusal's test holds: the first one's does not, and neither do the others'

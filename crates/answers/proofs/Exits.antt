@@ -2,7 +2,6 @@
 -- what the exit of a `?` answers.
 use mathlib.Core.Path.{◌≡◌, refl, sym, ap, ◌∙◌}
 use mathlib.Core.Logic.{◌≢◌}
-use mathlib.Core.Bool.{Bool, true, false}
 use mathlib.Core.List.{List, [], ◌∷◌}
 use Prim.Native.Nat.{ℕ}
 use native.Mathlib.Omega.{arith}
@@ -13,7 +12,6 @@ use Rattle.std.specs.Result.{IsErrAnd}
 use Rattle.std.proofs.lemmas.Result.{err_from_is_err_and}
 use Rattle.answers.specs.declared.refused.Refused.{Refused as Why}
 use Rattle.answers.specs.declared.refused.Refused.TheVariants.{ShortBuffer, NoBytes, NoFrame, Misplaced, Oversized, OutOfRange, NotAscending, TooMany, NoEnd, NoEntity, TableByte, FlowByte, NoChain, RaggedList, FullTally}
-use Rattle.answers.specs.declared.Told.{Told}
 use Rattle.answers.specs.Call.{Refusal, ◌then◌, first_refusal}
 use Rattle.answers.specs.Refused.{number, code, told_of}
 use Rattle.answers.proofs.Calls.{numbered, by_first, by_second}

@@ -1,14 +1,14 @@
 -- Laws of the rules of a list: the next one refuses, or what is left behind it decides.
-use mathlib.Core.Path.{◌≡◌, refl, sym, ap, ◌∙◌}
-use mathlib.Core.Bool.{Bool, true, false, cond}
-use mathlib.Core.List.{List, [], ◌∷◌}
-use Prim.Native.Nat.{ℕ, suc, ◌+◌, ◌≤◌, ◌<◌}
+use mathlib.Core.Path.{◌≡◌}
+use mathlib.Core.Bool.{Bool, true, false}
+use mathlib.Core.List.{List}
+use Prim.Native.Nat.{ℕ, ◌+◌, ◌≤◌, ◌<◌}
 use native.Mathlib.Numerals.{add-one}
 use lib.ListN.{length, drop, get_or}
 use lib.Seq.{drop-cons}
 use Rattle.std.proofs.lemmas.List.{drop_all}
 use Rattle.answers.specs.declared.refused.Refused.{Refused}
-use Rattle.answers.specs.Call.{first_refusal, ◌if◌}
+use Rattle.answers.specs.Call.{first_refusal}
 use Rattle.answers.specs.Refused.{number, listed}
 
 module _ (d : Bool × Refused) (rules : List (Bool × Refused)) (i : ℕ) (h : i < length rules) where

@@ -1,16 +1,15 @@
 -- A row that is written byte by byte in front of what a buffer held: with one byte more.
-use mathlib.Core.Path.{◌≡◌, refl, sym, ap, ◌∙◌}
+use mathlib.Core.Path.{◌≡◌, ◌∙◌}
 use mathlib.Core.Bool.{Bool, true, false, cond}
 use mathlib.Core.List.{List, [], ◌∷◌, ◌++◌, append_assoc}
 use Prim.Native.Nat.{ℕ, suc, ◌+◌, ◌≤◌, ◌<◌}
-use native.Mathlib.Decide.{ℕ_discrete}
 use native.Mathlib.Nat.{add_assoc}
 use native.Mathlib.Numerals.{add-one}
 use native.Mathlib.Omega.{arith}
 use lib.Dec.{eqb}
-use lib.ListN.{length, set, drop, get_or, length-append, get_or-append}
-use lib.Seq.{drop-cons, set_at, get_or_at}
-use Rattle.answers.specs.Rows.{Row, over, count}
+use lib.ListN.{length, set, drop, get_or, length-append}
+use lib.Seq.{drop-cons, set_at}
+use Rattle.answers.specs.Rows.{over, count}
 
 longer : (row : List ℕ) (b : ℕ) → length (row ++ (b ∷ [])) ≡ suc (length row)
 longer row b = length-append row (b ∷ []) ∙ add-one (length row)

@@ -1,7 +1,6 @@
 -- What tables have that passed 1 and 5.
-use mathlib.Core.Path.{◌≡◌, sym, ◌∙◌}
+use mathlib.Core.Path.{◌≡◌}
 use mathlib.Core.Bool.{Bool}
-use Prim.Native.Nat.{ℕ}
 use borrow.Author.Tests.{ltb-false}
 use lib.Dec.{T}
 use Rattle.answers.specs.Call.{first_refusal}

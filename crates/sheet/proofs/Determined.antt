@@ -8,7 +8,6 @@ use Rattle.answers.specs.declared.Told.{Told}
 use Rattle.answers.proofs.Exits.{some_number, one_number}
 use Rattle.frames.specs.declared.RefusedText.{RefusedText}
 use Rattle.sheet.specs.declared.Accepted.{Accepted}
-use Rattle.sheet.specs.declared.Reading.{Reading}
 use Rattle.answers.specs.Part.{SamePart}
 use Rattle.answers.proofs.Calls.{determined}
 use Rattle.answers.proofs.Parts.{one_part}

@@ -1,9 +1,8 @@
 -- What a flow table has that passed the refusals of one, and that a sound one passes.
-use Prim.Native.Nat.{ℕ, ◌+◌, ◌*◌, ◌≤◌, ◌<◌}
+use Prim.Native.Nat.{ℕ, ◌*◌, ◌≤◌}
 use mathlib.Core.Path.{◌≡◌, sym, ◌∙◌}
 use mathlib.Core.Bool.{Bool, false, false≢true}
 use mathlib.Core.List.{List}
-use native.Mathlib.Omega.{arith}
 use borrow.Author.Tests.{ltb-false, le-ltb, eq-eqb, ne_eqb}
 use lib.Dec.{T, eqb}
 use lib.ListN.{length}
@@ -11,7 +10,7 @@ use Rattle.answers.specs.Call.{first_refusal, ◌then◌}
 use Rattle.answers.specs.Rows.{at}
 use Rattle.answers.proofs.Below.{none_of, all_fail, none_above, all_within}
 use Rattle.answers.proofs.Calls.{numbered, none_left, passed, pass, passed_then, pass_then}
-use Rattle.answers.proofs.Products.{place_below, product_within}
+use Rattle.answers.proofs.Products.{product_within}
 use Rattle.tables.specs.FlowTable.{byte_refusals, flow_size_refusals, flow_refusals, SizedFlow, SoundFlow}
 
 pub flow_numbered : (short : Bool) (n : ℕ) (table : List ℕ) → T (numbered (flow_refusals short n table))
