@@ -6,7 +6,7 @@ use native.Mathlib.Omega.{arith}
 use lib.ListN.{length, take, drop, take-append-drop}
 use lib.Seq.{drop-drop, length-take-le}
 use borrow.Author.Tests.{ltb-false}
-use Rattle.std.specs.Prelude.{Ok, Err}
+use Rattle.std.specs.Prelude.{Ok, Err, IsOk}
 use Rattle.answers.specs.declared.refused.Refused.{Refused as Why}
 use Rattle.answers.specs.Rows.{over}
 use Rattle.tables.specs.Sheet.{Sheet, sheet_of}
@@ -114,8 +114,9 @@ parts_kept t b₀ b k rest s long =
 
 module _ (t : List ℕ) (b₀ b : Tables) (k : Passed) (rest : List Parsed) (s : Filling t b₀ b k rest) where
   -- each line of an accepted text is a frame
-  pub no_other_line : (line : Parsed) (more : List Parsed) (why : Why) → rest ≡ line ∷ more → line ≡ Err why → ⊥
-  no_other_line line more why here e = err_refused k why (rw e at (line_passed k line more (ap (check k) (sym here) ∙ s.left)).0)
+  pub is_frame : (line : Parsed) (more : List Parsed) → rest ≡ line ∷ more → IsOk line
+  is_frame (Ok f) more here = refl
+  is_frame (Err why) more here = absurd (err_refused k why (line_passed k (Err why) more (ap (check k) (sym here) ∙ s.left)).0)
 
   module _ (line : Parsed) (more : List Parsed) (f : Frame) (here : rest ≡ line ∷ more) (is : line ≡ Ok f) where
     frame_here : rest ≡ Ok f ∷ more

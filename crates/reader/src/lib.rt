@@ -56,10 +56,8 @@ pub fn fill(text: &[u8], assignment: &mut [u8], permission: &mut [u8], separatio
     let lines = Lines { rest: text };
     let mut k = Passed::start();
     for line in lines {
-        // Each line of an accepted text is a frame.
-        let Ok(frame) = line else {
-            return;
-        };
+        // each line of an accepted text is a frame
+        let frame = line.unwrap();
         store_frame(k, frame, assignment, permission, separations);
         k = checking::state_after(k, frame);
     }
