@@ -6,8 +6,10 @@ use mathlib.Core.Bool.{Bool, true, false, ◌&&◌, cond}
 use mathlib.Core.List.{List, [], ◌∷◌}
 use Prim.Native.Nat.{ℕ, zero, suc, ◌<◌}
 use native.Mathlib.Nat.{suc-ne-zero}
+use native.Mathlib.Decide.{ℕ_discrete}
 use native.Mathlib.Omega.{arith}
-use lib.Dec.{T, ltb, lit<}
+use borrow.Author.Tests.{eq-eqb, ne_eqb}
+use lib.Dec.{T, ltb, eqb, lit<}
 use Rattle.answers.specs.Call.{Refusal, ◌if◌, ◌then◌, first_refusal, Outcome}
 
 -- no refusal's test holds: the first one's does not, and neither do the others'
@@ -57,6 +59,21 @@ by_second (r ∷ l) m t e = go r.number r.test t e (by_second l m)
         (T (numbered l) → first_refusal l ≡ 0 → first_refusal (l then m) ≡ first_refusal m) → cond b n (first_refusal (l then m)) ≡ first_refusal m
     go n true t e rest = absurd (let h : 0 < n = lit< (parts (ltb 0 n) (numbered l) t).0 in omega arith)
     go n false t e rest = rest (parts (ltb 0 n) (numbered l) t).1 e
+
+-- the same of the numbers k and n that functions answer for the two lists
+pub first_refuses : (l m : List Refusal) (k : ℕ) → k ≡ first_refusal l → k ≢ 0 → k ≡ first_refusal (l then m)
+first_refuses l m k e some = e ∙ sym (by_first l m (λ none. some (e ∙ none)))
+
+pub second_decides : (l m : List Refusal) (k n : ℕ) → T (numbered l) → k ≡ first_refusal l → k ≡ 0 → n ≡ first_refusal m → n ≡ first_refusal (l then m)
+second_decides l m k n t e none f = f ∙ sym (by_second l m t (sym e ∙ none))
+
+-- both at once
+pub by_both : (l m : List Refusal) → T (numbered l) → first_refusal (l then m) ≡ cond (eqb (first_refusal l) 0) (first_refusal m) (first_refusal l)
+by_both l m t = go (ℕ_discrete (first_refusal l) 0)
+  where
+    go : Dec (first_refusal l ≡ 0) → first_refusal (l then m) ≡ cond (eqb (first_refusal l) 0) (first_refusal m) (first_refusal l)
+    go (yes none) = rw (eq-eqb (first_refusal l) 0 none) (by_second l m t none)
+    go (no some) = rw (ne_eqb (first_refusal l) 0 some) (by_first l m some)
 
 -- two lists pass exactly if both do
 pub passed_then : (l m : List Refusal) → T (numbered l) → first_refusal (l then m) ≡ 0 → (first_refusal l ≡ 0) × (first_refusal m ≡ 0)

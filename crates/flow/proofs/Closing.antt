@@ -2,6 +2,7 @@
 use Prim.Native.Nat.{ℕ}
 use mathlib.Core.Path.{◌≡◌, refl, ap}
 use mathlib.Core.Bool.{false}
+use mathlib.Core.Logic.{◌≢◌}
 use mathlib.Core.List.{List}
 use borrow.Author.Tests.{ltb-false}
 use Rattle.answers.specs.declared.refused.Refused.{Refused}
@@ -36,9 +37,13 @@ fillable l flow e =
     record { sized = p.sized; room = ltb-false _ _ p.not_short }
 
 -- ---- the ends of `fill`
-pub fill_refused : (l : Lent) (flow : List ℕ) (why : Refused) {n : ℕ} → n ≡ number why → number why ≡ first_refusal (sheet_refusals (shorter flow least_flow) false l) → Fills l flow (n, flow)
+pub fill_refused : (l : Lent) (flow : List ℕ) (n : ℕ) → n ≡ first_refusal (sheet_refusals (shorter flow least_flow) false l) → n ≢ 0 → Fills l flow (n, flow)
 unfolding fill_refusals
-fill_refused l flow why r e = refuse (number why) e (some_number why) (ap (left flow) r)
+fill_refused l flow n e some = refuse n e some refl
+
+-- the same of a refusal as code has it
+pub fill_stopped : (l : Lent) (flow : List ℕ) (why : Refused) {n : ℕ} → n ≡ number why → number why ≡ first_refusal (sheet_refusals (shorter flow least_flow) false l) → Fills l flow (n, flow)
+fill_stopped l flow why r e = rw r (fill_refused l flow (number why) e (some_number why))
 
 pub fill_done : (l : Lent) (before after : List ℕ) → first_refusal (sheet_refusals (shorter before least_flow) false l) ≡ 0 → FlowFilled (sheet_in l) before after → Fills l before (0, after)
 unfolding fill_refusals

@@ -43,9 +43,14 @@ lines_few (f ∷ fs) =
 puts_long : {fs : List Frame} {pen next : Pen} → Puts fs pen next → length next.text.now ≡ length pen.text.now
 puts_long {fs} {pen} p = ap length p.text ∙ length-sets pen.text.now pen.at (text_of fs)
 
+-- nothing is written
+pub puts_none : (pen : Pen) → Puts [] pen pen
+unfolding text_of
+puts_none pen = record { place = omega arith; count = omega arith; text = refl }
+
 module _ {fs gs : List Frame} {pen next : Pen} (p : Puts fs pen next) where
   -- what is written then comes behind it
-  puts_then : {last : Pen} → Puts gs next last → Puts (fs ++ gs) pen last
+  pub puts_then : {last : Pen} → Puts gs next last → Puts (fs ++ gs) pen last
   puts_then {last} q =
       record {
         place = omega (arith, p.place, q.place, text_sizes fs gs);

@@ -28,7 +28,7 @@ fn check_chain(sheet: LentSheet, x: usize, y: usize, chain: &[u8]) -> Result<(),
     first_refused(&[(n <= x, Refused::NoEntity), (n <= y, Refused::NoEntity)])
 }
 
-// Writes the chain from x to y of a sheet whose tables were not refused, and returns its count of entities.
+// Writes the chain from x to y of a sheet whose tables were not refused, and returns its count of entities, if there is one.
 fn show(sheet: LentSheet, x: usize, y: usize, chain: &mut [u8]) -> Option<usize>
     requires { Showable (lent_by sheet) x y chain.old }
     ensures { ShownChain (Channel (sheet_in (lent_by sheet.entry))) x y chain.old chain.new result }

@@ -33,7 +33,8 @@ fn print_effects(rt: &impl Print, effect: &[u8]) -> io::Result<()> {
     Ok(())
 }
 
-// Changes the sheet, and writes what that does to each label, by its flow tables before and after.
+// Changes the sheet, and writes what that does to each label, by its flow tables before and after. Of a sheet that was accepted only the
+// change itself can be refused.
 fn ask(
     counts: Counts,
     assignment: &[u8],
