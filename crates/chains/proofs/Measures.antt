@@ -12,7 +12,7 @@ use Rattle.theory.specs.Chain.{Chain, link, Best}
 use Rattle.theory.proofs.Chains.{Goes, ends, on, chain_goes, chain_long}
 use Rattle.theory.proofs.Exists.{best_exists, best_fits}
 use Rattle.theory.proofs.Filled.{bytes_inside}
-use Rattle.chains.specs.Distance.{known, Distance, Moved, kept, moved, Near, Round, Final, Distances}
+use Rattle.chains.specs.Distance.{known, Distance, Moved, kept, moved, Near, Round, NoneAt, Final, Distances}
 use Rattle.chains.proofs.Distances.{distance_none, distance_below}
 use Rattle.theory.specs.Laws.{Inside}
 
@@ -77,9 +77,26 @@ module _ {ch : ℕ → ℕ → Type 0} {n r : ℕ} (y : ℕ) {dist dist' : List 
   pub measured_next : Measured ch n y (r + 1) dist'
   measured_next x l = known_next l (s.each x)
 
+-- ---- a round that leaves no entity at r sets no distance
+module _ {ch : ℕ → ℕ → Type 0} {n r : ℕ} (y : ℕ) {dist dist' : List (Option ℕ)} (m : Measured ch n y r dist) (s : Round ch n r n dist dist')
+    (none : NoneAt r n dist') where
+  none_before : NoneAt r n dist
+  none_before x l e = go (s.each x)
+    where
+      go : Moved (Near ch dist r n) (r + 1) dist dist' x → ⊥
+      go (kept k) = none x l (k ∙ e)
+      go (moved o f p) = cc
+
+  same : {x : ℕ} → Moved (Near ch dist r n) (r + 1) dist dist' x → known dist' x ≡ known dist x
+  same (kept e) = e
+  same (moved o f p) = absurd (none_before p.to p.below p.at)
+
+  pub measured_same : Measured ch n y r dist'
+  measured_same x l = rw (same (s.each x)) (m x l)
+
 -- ---- no entity at r: no round from there on sets a distance
 module _ {ch : ℕ → ℕ → Type 0} {n r : ℕ} (y : ℕ) (dist : List (Option ℕ)) (inner : Inside n ch) (m : Measured ch n y r dist)
-    (none : (x : ℕ) → x < n → known dist x ≡ Some r → ⊥) where
+    (none : NoneAt r n dist) where
   no_near : (j : ℕ) {x : ℕ} → Near ch dist (r + j) n x → ⊥
   no_near j p =
       let low : r + j ≤ r = (rw p.at at (m p.to p.below)).0 in

@@ -6,7 +6,7 @@ use mathlib.Core.List.{List}
 use native.Mathlib.Decide.{ℕ_discrete}
 use native.Mathlib.Omega.{arith}
 use Rattle.std.specs.Prelude.{Option, Some, None}
-use Rattle.chains.specs.Distance.{known, Moved, kept, moved, Settled, Near, Round}
+use Rattle.chains.specs.Distance.{known, Moved, kept, moved, Settled, Near, Round, NoneAt}
 
 module _ {P : ℕ → Type 0} {d : ℕ} where
   -- ---- with P first, then with Q
@@ -73,3 +73,12 @@ module _ {ch : ℕ → ℕ → Type 0} {n r w : ℕ} {dist dist' : List (Option 
       parted : {x : ℕ} (p : Near ch dist r (w + 1) x) → Dec (p.to ≡ w) → Near ch dist r w x ⊎ ch x w
       parted {x} p (yes e) = inr (rw e at p.channel)
       parted p (no ne) = inl (record { to = p.to; below = omega (arith, p.below); channel = p.channel; at = p.at })
+
+-- ---- who is at r
+module _ {r w : ℕ} (dist : List (Option ℕ)) (none : NoneAt r w dist) (other : known dist w ≡ Some r → ⊥) where
+  pub none_more : NoneAt r (w + 1) dist
+  none_more x l e = go (ℕ_discrete x w)
+    where
+      go : Dec (x ≡ w) → ⊥
+      go (yes same) = other (rw same at e)
+      go (no ne) = none x (omega arith) e

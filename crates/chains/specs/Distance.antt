@@ -35,6 +35,10 @@ pub record Near (ch : ℕ → ℕ → Type 0) (dist : List (Option ℕ)) (r limi
 abbrev pub Round : (ch : ℕ → ℕ → Type 0) (n r limit : ℕ) (dist dist' : List (Option ℕ)) → Type 0
 Round ch n r limit dist dist' = Settled (Near ch dist r limit) (r + 1) n dist dist'
 
+-- no entity below n is at distance r
+abbrev pub NoneAt : (r n : ℕ) (dist : List (Option ℕ)) → Type 0
+NoneAt r n dist = (x : ℕ) → x < n → known dist x ≡ Some r → ⊥
+
 -- the distance of x to y, or none where x does not flow to y
 abbrev pub Final : (ch : ℕ → ℕ → Type 0) (n y x : ℕ) → Option ℕ → Type 0
 Final ch n y x (Some k) = (k < n) × Distance ch y k x

@@ -9,7 +9,9 @@ ghost use Rattle.answers.specs.Rows.{Filled};
 ghost use Rattle.access.specs.Channel.{Channel};
 ghost use Rattle.channels.specs.Inner.{Fillable};
 
+use answers::sizes;
 use permissions::Permissions;
+use roles::RoleList;
 use tables::LentSheet;
 
 // Writes the channel table of a sheet: the byte at x * N + y is 1 where there is a channel from x to y, and 0 where there is none.
@@ -17,7 +19,8 @@ pub fn fill_channels(sheet: LentSheet, channels: &mut [u8])
     requires { Fillable (lent_by sheet) channels.old }
     ensures { Filled (entities sheet.entry.counts) (Channel (sheet_in (lent_by sheet.entry))) channels.old channels.new }
 {
-    let lists = roles::list_roles(sheet);
+    let mut lists = [RoleList::EMPTY; sizes::MOST_SUBJECTS];
+    roles::list_roles(sheet, &mut lists);
     let permissions = Permissions {
         sheet,
         lists: &lists,

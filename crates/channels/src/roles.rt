@@ -50,14 +50,12 @@ impl RoleList {
     }
 }
 
-// The roles of each subject.
-pub fn list_roles(sheet: LentSheet) -> [RoleList; sizes::MOST_SUBJECTS]
+// Lists the roles of each subject.
+pub fn list_roles(sheet: LentSheet, lists: &mut [RoleList; sizes::MOST_SUBJECTS])
     requires { Sized (lent_by sheet) }
-    ensures { Lists (lent_by sheet.entry) result }
+    ensures { Lists (lent_by sheet.entry) lists.new }
 {
-    let mut lists = [RoleList::EMPTY; sizes::MOST_SUBJECTS];
     for s in 0..sheet.counts.subjects {
         lists[s] = RoleList::of(sheet, s);
     }
-    lists
 }

@@ -7,6 +7,6 @@ use Rattle.channels.proofs.roles.list_roles.Given as goal
 abbrev pub invariant-loop-s : goal.invariant-loop-s
 invariant-loop-s l =
     record {
-      subjects : length l.lists ≡ 48;
+      same_length : length l.lists ≡ length l.initial.lists;
       each : (x : ℕ) → x < l.s → RolesOf (lent_by l.sheet) x (get_or l.lists x empty);
     }

@@ -1,5 +1,7 @@
 -- `channels::permissions::Permissions::fill_row` meets its contract. After y turns the first y bytes are right.
 use Rattle.std.proofs.Common.{◌≡◌, ◌<◌, ◌∙◌, length, arith}
+use mir.Val.{bool_byte}
+use Rattle.std.proofs.Math.Bool.{or-false, and-true}
 use Rattle.answers.proofs.FilledBytes.{one_byte_more, bytes_row}
 use Rattle.tables.specs.Sheet.{entities}
 use Rattle.channels.proofs.Sides.{marked}
@@ -8,7 +10,8 @@ use Rattle.channels.proofs.permissions.Permissions.fill_row.Goals as goal
 pub loop-y-preserved : goal.loop-y-preserved
 loop-y-preserved c =
     let inside : c.loop-y.y < length c.loop-y.row = omega arith in
-    one_byte_more c.loop-y.invariant inside (marked c.from.ensures c.channel.ensures)
+    let byte : c.from.result ≡ bool_byte c.channel.result = simp (c.from.ensures, or-false, and-true) in
+    one_byte_more c.loop-y.invariant inside (marked byte c.channel.ensures)
 
 pub returns : goal.returns
 returns c =
