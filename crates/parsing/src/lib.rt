@@ -1,14 +1,22 @@
-// The lines of a text, and what each comes to.
+// The lines of a text: what each comes to, and where the next one begins.
 #![tactic(auto)]
 
-ghost use Rattle.std.specs.Prelude.{◌≡◌, true};
+ghost use Rattle.std.specs.Prelude.{◌≡◌, true, ◌<◌, length};
 ghost use Rattle.digits.specs.Digit.{digit_pairs, to_bytes};
 ghost use Rattle.digits.specs.Line.{line as asLine};
 ghost use Rattle.frames.specs.Frame.{of_three, of_four, frame_of, parse};
+ghost use Rattle.parsing.specs.Inner.{FoundAt};
 
 use answers::refused::Refused;
 use digits::byte_at;
 use frames::Frame;
+
+// A line that was read, and where the next one begins.
+#[derive(Clone, Copy)]
+pub struct Found {
+    pub parsed: Result<Frame, Refused>,
+    pub next: usize,
+}
 
 #[tactic(auto, unfolding(frames::specs::Frame::of_three))]
 fn of_three(kind: u8, a: u8, b: u8) -> Result<Frame, Refused>
@@ -61,6 +69,19 @@ fn parse_line(line: &[u8], ended: bool) -> Result<Frame, Refused>
     frame_of(line)
 }
 
+// The line that starts at p.
+pub fn parse_at(text: &[u8], p: usize) -> Found
+    requires { p < length text.now }
+    ensures { FoundAt text.now p result }
+{
+    let end = lines::end_of_line(text, p);
+    let parsed = parse_line(&text[p..end], end < text.len());
+    Found {
+        parsed,
+        next: end + 1,
+    }
+}
+
 // What the lines of a text come to, one after the other.
 #[derive(Drop)]
 pub struct Lines<'a> {
@@ -81,10 +102,9 @@ impl<'a> Iterator for Lines<'a> {
         if self.rest.is_empty() {
             return None;
         }
-        let end = lines::end_of_line(self.rest, 0);
-        let line = parse_line(&self.rest[..end], end < self.rest.len());
-        let next = self.rest.len().min(end + 1);
+        let found = parse_at(self.rest, 0);
+        let next = self.rest.len().min(found.next);
         self.rest = &self.rest[next..];
-        Some(line)
+        Some(found.parsed)
     }
 }

@@ -1,7 +1,7 @@
 -- `next` of the lines of a text meets its contract: it gives what the first line comes to, and leaves the lines after it.
 use Prim.Native.Nat.{ℕ}
-use borrow.Author.Tests.{eqb-true, eqb-false}
-use Rattle.std.proofs.Common.{List, ◌∷◌, ap, ◌∙◌, sym, arith, length, rules}
+use borrow.Author.Tests.{eqb-true}
+use Rattle.std.proofs.Common.{List, ◌∷◌, ap, ◌∙◌, sym, arith}
 use Rattle.std.proofs.lemmas.List.{take_rest}
 use Rattle.frames.specs.Check.{parsed_lines}
 use Rattle.parsing.proofs.Parses.{no_lines, first_line}
@@ -15,14 +15,5 @@ returns-then-is_empty-clause-steps c =
 pub returns-clause-steps : goal.returns-clause-steps
 returns-clause-steps c =
     let t = c.args.self.now.rest.now in
-    let some = eqb-false _ _ (sym c.if-is_empty.ensures) in
-    let step = first_line t c.end_of_line-end.result c.min-next.result c.parse_line-line.result (omega arith) (omega arith) (omega arith) c.parse_line-line.ensures in
-    step ∙ ap (λ (l : List ℕ). c.parse_line-line.result ∷ parsed_lines l) (sym (take_rest t c.min-next.result))
-
-pub returns-clause-goes : goal.returns-clause-goes
-returns-clause-goes c =
-    let t = c.args.self.now.rest.now in
-    let some = eqb-false _ _ (sym c.if-is_empty.ensures) in
-    let step = first_line t c.end_of_line-end.result c.min-next.result c.parse_line-line.result (omega arith) (omega arith) (omega arith) c.parse_line-line.ensures in
-    let shorter = ap length (step ∙ ap (λ (l : List ℕ). c.parse_line-line.result ∷ parsed_lines l) (sym (take_rest t c.min-next.result))) in
-    search rules
+    let step = first_line t c.parse_at-found.result c.min-next.result c.parse_at-found.ensures (omega arith) in
+    step ∙ ap (λ (l : List ℕ). c.parse_at-found.result.parsed ∷ parsed_lines l) (sym (take_rest t c.min-next.result))
