@@ -10,7 +10,7 @@ use Rattle.digits.specs.Line.{line_of}
 use Rattle.digits.proofs.Puts.{sets_append}
 use Rattle.frames.specs.declared.Frame.{Frame}
 use Rattle.frames.specs.Frame.{frame_bytes, text_of}
-use Rattle.scribe.specs.declared.Pen.{Pen}
+use Rattle.scribe.specs.declared.Page.{Page}
 use Rattle.scribe.specs.Put.{Puts, Room}
 
 -- ---- the text of frames
@@ -40,26 +40,26 @@ lines_few (f ∷ fs) =
 
 -- ---- what is written, and what is left to write
 -- the buffer keeps its length
-puts_long : {fs : List Frame} {pen next : Pen} → Puts fs pen next → length next.text.now ≡ length pen.text.now
-puts_long {fs} {pen} p = ap length p.text ∙ length-sets pen.text.now pen.at (text_of fs)
+puts_long : {fs : List Frame} {page next : Page} → Puts fs page next → length next.text.now ≡ length page.text.now
+puts_long {fs} {page} p = ap length p.text ∙ length-sets page.text.now page.pen.at (text_of fs)
 
 -- nothing is written
-pub puts_none : (pen : Pen) → Puts [] pen pen
+pub puts_none : (page : Page) → Puts [] page page
 unfolding text_of
-puts_none pen = record { place = omega arith; count = omega arith; text = refl }
+puts_none page = record { place = omega arith; count = omega arith; text = refl }
 
-module _ {fs gs : List Frame} {pen next : Pen} (p : Puts fs pen next) where
+module _ {fs gs : List Frame} {page next : Page} (p : Puts fs page next) where
   -- what is written then comes behind it
-  pub puts_then : {last : Pen} → Puts gs next last → Puts (fs ++ gs) pen last
+  pub puts_then : {last : Page} → Puts gs next last → Puts (fs ++ gs) page last
   puts_then {last} q =
       record {
         place = omega (arith, p.place, q.place, text_sizes fs gs);
         count = omega (arith, p.count, q.count, length-append fs gs);
-        text = q.text ∙ rw (p.text, p.place, text_append) (sym (sets_append pen.text.now pen.at (text_of fs) (text_of gs)));
+        text = q.text ∙ rw (p.text, p.place, text_append) (sym (sets_append page.text.now page.pen.at (text_of fs) (text_of gs)));
       }
 
   -- there is room for more where there was room for all
-  room_then : Room (fs ++ gs) pen → Room gs next
+  room_then : Room (fs ++ gs) page → Room gs next
   room_then r =
       record {
         fits = omega (arith, r.fits, p.place, text_sizes fs gs, puts_long p);
@@ -67,19 +67,19 @@ module _ {fs gs : List Frame} {pen next : Pen} (p : Puts fs pen next) where
       }
 
 -- of all lines, which are to be written from `start` on, these are left: there is room for them, and with them all are written
-pub record Left (all left : List Frame) (start pen : Pen) : Type 0 where
-  pub room : Room left pen
-  pub count : pen.lines + length left ≡ start.lines + length all
-  pub whole : (last : Pen) → Puts left pen last → Puts all start last
+pub record Left (all left : List Frame) (start page : Page) : Type 0 where
+  pub room : Room left page
+  pub count : page.pen.lines + length left ≡ start.pen.lines + length all
+  pub whole : (last : Page) → Puts left page last → Puts all start last
 
-pub all_left : {all : List Frame} {start : Pen} → Room all start → Left all all start start
+pub all_left : {all : List Frame} {start : Page} → Room all start → Left all all start start
 all_left r = record { room = r; count = refl; whole = λ last p. p }
 
-module _ {all : List Frame} {start pen : Pen} where
-  pub room_first : (fs gs : List Frame) → Left all (fs ++ gs) start pen → Room fs pen
+module _ {all : List Frame} {start page : Page} where
+  pub room_first : (fs gs : List Frame) → Left all (fs ++ gs) start page → Room fs page
   room_first fs gs l = record { fits = omega (arith, l.room.fits, text_sizes fs gs); few = l.room.few }
 
-  pub less_left : {fs gs : List Frame} {next : Pen} → Left all (fs ++ gs) start pen → Puts fs pen next → Left all gs start next
+  pub less_left : {fs gs : List Frame} {next : Page} → Left all (fs ++ gs) start page → Puts fs page next → Left all gs start next
   less_left {fs} {gs} l p =
       record {
         room = room_then p l.room;
@@ -87,6 +87,6 @@ module _ {all : List Frame} {start pen : Pen} where
         whole = λ last q. l.whole last (puts_then p q);
       }
 
-  pub none_left : Left all [] start pen → Puts all start pen
+  pub none_left : Left all [] start page → Puts all start page
   unfolding text_of
-  none_left l = l.whole pen (record { place = omega arith; count = omega arith; text = refl })
+  none_left l = l.whole page (record { place = omega arith; count = omega arith; text = refl })

@@ -5,12 +5,12 @@ use mathlib.Core.Logic.{◌≢◌}
 use mathlib.Core.List.{List, [], ◌∷◌, ◌++◌}
 use native.Mathlib.Numerals.{add-one}
 use native.Mathlib.Omega.{arith}
-use lib.ListN.{length, get_or, drop, drop_of_length-le}
+use lib.ListN.{length, get_or, take, drop, drop_of_length-le}
 use lib.Seq.{drop-cons}
 use Rattle.frames.specs.declared.Frame.{Frame}
 use Rattle.frames.specs.declared.Frame.TheVariants.{Separate}
 use Rattle.text.specs.Content.{present, separates}
-use Rattle.scribe.specs.declared.Pen.{Pen}
+use Rattle.scribe.specs.declared.Page.{Page}
 use Rattle.scribe.specs.Put.{Puts, Room}
 use Rattle.scribe.proofs.PutLaws.{Left, room_first, less_left, none_left}
 
@@ -29,25 +29,29 @@ module _ (frame : ℕ → ℕ → Frame) where
   abbrev present_from : List ℕ → ℕ → List Frame
   present_from bytes i = present frame i (drop i bytes)
 
-  module _ {all : List Frame} {start pen : Pen} (bytes : List ℕ) (i : ℕ) (l : Left all (present_from bytes i) start pen) where
+  -- those of the bytes before place i
+  abbrev pub present_to : ℕ → List ℕ → List Frame
+  present_to i table = present frame 0 (take i table)
+
+  module _ {all : List Frame} {start page : Page} (bytes : List ℕ) (i : ℕ) (l : Left all (present_from bytes i) start page) where
     abbrev byte : ℕ
     byte = get_or bytes i 0
 
     module _ (h : i < length bytes) where
       module _ (some : byte ≢ 0) where
-        first_left : Left all (frame i byte ∷ present_from bytes (i + 1)) start pen
+        first_left : Left all (frame i byte ∷ present_from bytes (i + 1)) start page
         first_left = rw (drop-cons bytes i 0 h, present_some i byte (drop (suc i) bytes) some, ← add-one) at l
 
-        pub cell_room : Room (frame i byte ∷ []) pen
+        pub cell_room : Room (frame i byte ∷ []) page
         cell_room = room_first (frame i byte ∷ []) _ first_left
 
-        pub cell_put : {next : Pen} → Puts (frame i byte ∷ []) pen next → Left all (present_from bytes (i + 1)) start next
+        pub cell_put : {next : Page} → Puts (frame i byte ∷ []) page next → Left all (present_from bytes (i + 1)) start next
         cell_put p = less_left first_left p
 
-      pub cell_none : byte ≡ 0 → Left all (present_from bytes (i + 1)) start pen
+      pub cell_none : byte ≡ 0 → Left all (present_from bytes (i + 1)) start page
       cell_none none = rw (drop-cons bytes i 0 h, present_none i byte (drop (suc i) bytes) none, ← add-one) at l
 
-    pub table_put : length bytes ≤ i → Puts all start pen
+    pub table_put : length bytes ≤ i → Puts all start page
     unfolding present
     table_put h = none_left (rw (drop_of_length-le bytes h) at l)
 

@@ -7,25 +7,25 @@ use Rattle.tables.specs.Sheet.{Lent, Sheet, entities}
 use Rattle.frames.specs.declared.Frame.{Frame}
 use Rattle.frames.specs.Frame.{text_of}
 use Rattle.text.specs.Content.{present, write_sheet}
-use Rattle.scribe.specs.declared.Pen.{Pen}
+use Rattle.scribe.specs.declared.Page.{Page}
 use Rattle.tables.specs.Refusals.{Sized, Listed}
 
 -- the lines of frames are written where the pen stands, and the pen stands past them
-pub record Puts (frames : List Frame) (pen next : Pen) : Type 0 where
-  pub place : next.at ≡ pen.at + length (text_of frames)
-  pub count : next.lines ≡ pen.lines + length frames
-  pub text : next.text.now ≡ sets pen.text.now pen.at (text_of frames)
+pub record Puts (frames : List Frame) (page next : Page) : Type 0 where
+  pub place : next.pen.at ≡ page.pen.at + length (text_of frames)
+  pub count : next.pen.lines ≡ page.pen.lines + length frames
+  pub text : next.text.now ≡ sets page.text.now page.pen.at (text_of frames)
 
 -- the text has room for them; no more lines were written than bytes, so that they can be counted
-pub record Room (frames : List Frame) (pen : Pen) : Type 0 where
-  pub fits : pen.at + length (text_of frames) ≤ length pen.text.now
-  pub few : pen.lines ≤ pen.at
+pub record Room (frames : List Frame) (page : Page) : Type 0 where
+  pub fits : page.pen.at + length (text_of frames) ≤ length page.text.now
+  pub few : page.pen.lines ≤ page.pen.at
 
 -- `frame` is what a closure answers for the row, the place there and the byte at place i of a table whose rows have `width` bytes, and the text
 -- has room for the lines of such a table
-pub record Frames (answers : ℕ → ℕ → ℕ → Frame → Type 0) (width : ℕ) (table : List ℕ) (pen : Pen) (frame : ℕ → ℕ → Frame) : Type 0 where
+pub record Frames (answers : ℕ → ℕ → ℕ → Frame → Type 0) (width : ℕ) (table : List ℕ) (page : Page) (frame : ℕ → ℕ → Frame) : Type 0 where
   pub made : (i byte : ℕ) (f : Frame) → answers (i / width) (i % width) byte f → f ≡ frame i byte
-  pub room : Room (present frame 0 table) pen
+  pub room : Room (present frame 0 table) page
 
 -- a table of some rows, its used part within the buffer
 pub record Table (rows width : ℕ) (table : List ℕ) : Type 0 where

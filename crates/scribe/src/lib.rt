@@ -24,6 +24,13 @@ const SEPARATE: u8 = 4;
 
 const END: u8 = 5;
 
+// Where the next line goes, and how many lines stand before it.
+#[derive(Clone, Copy)]
+pub struct Pen {
+    pub at: usize,
+    pub lines: usize,
+}
+
 // A frame's line; the answer is the place past it.
 #[tactic(auto, unfolding(frames::specs::Frame::frame_bytes, digits::specs::Line::line_of, digits::specs::Digit::to_digits))]
 fn put_line(text: &mut [u8], at: usize, frame: Frame) -> usize
@@ -39,23 +46,22 @@ fn put_line(text: &mut [u8], at: usize, frame: Frame) -> usize
     }
 }
 
-// A text that is being written: where its next line goes, and how many lines it has.
+// A text that is being written, and the pen on it.
 #[derive(Drop)]
-struct Pen<'a> {
+struct Page<'a> {
     text: &'a mut [u8],
-    at: usize,
-    lines: usize,
+    pen: Pen,
 }
 
-impl<'a> Pen<'a> {
+impl<'a> Page<'a> {
     // One line more.
     fn put_frame(&mut self, frame: Frame)
         requires { Room (frame ∷ []) self.old }
         ensures same_text { self.new.text.ghost_name ≡ self.old.text.ghost_name }
         ensures lines { Puts (frame ∷ []) self.old self.new }
     {
-        self.at = put_line(self.text, self.at, frame);
-        self.lines += 1;
+        self.pen.at = put_line(self.text, self.pen.at, frame);
+        self.pen.lines += 1;
     }
 
     // The header's line, the first of a text.
@@ -111,13 +117,13 @@ impl<'a> Pen<'a> {
     // The end's line, with the count of the lines before it.
     #[tactic(auto, unfolding(text::specs::Content::closing))]
     fn put_end(&mut self)
-        requires lines_bound { self.old.lines < 65536 }
-        requires room { Room (closing self.old.lines ∷ []) self.old }
+        requires lines_bound { self.old.pen.lines < 65536 }
+        requires room { Room (closing self.old.pen.lines ∷ []) self.old }
         ensures same_text { self.new.text.ghost_name ≡ self.old.text.ghost_name }
-        ensures lines { Puts (closing self.old.lines ∷ []) self.old self.new }
+        ensures lines { Puts (closing self.old.pen.lines ∷ []) self.old self.new }
     {
-        let high = (self.lines / 256) as u8;
-        let low = (self.lines % 256) as u8;
+        let high = (self.pen.lines / 256) as u8;
+        let low = (self.pen.lines % 256) as u8;
         self.put_frame(Frame::End(high, low));
     }
 }
@@ -128,25 +134,24 @@ pub fn write_tables(sheet: LentSheet, separations: Separations, text: &mut [u8])
     ensures { Written (sheet_of (lent_by sheet.entry) separations.entry.count separations.entry.pairs.now) text.old result text.new }
 {
     let counts = sheet.counts;
-    let mut pen = Pen {
+    let mut page = Page {
         text,
-        at: 0,
-        lines: 0,
+        pen: Pen { at: 0, lines: 0 },
     };
-    pen.put_header(counts);
-    pen.put_table(
+    page.put_header(counts);
+    page.put_table(
         counts.subjects,
         counts.roles,
         sheet.assignment,
         |s, r, _| Frame::Assign(s, r),
     );
-    pen.put_table(
+    page.put_table(
         counts.roles,
         counts.objects,
         sheet.permission,
         Frame::Permit,
     );
-    pen.put_separated(&separations.pairs[..2 * separations.count]);
-    pen.put_end();
-    pen.at
+    page.put_separated(&separations.pairs[..2 * separations.count]);
+    page.put_end();
+    page.pen.at
 }

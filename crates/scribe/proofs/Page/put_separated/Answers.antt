@@ -1,4 +1,4 @@
--- `scribe::Pen::put_separated` meets its contract: the lines of the pairs to come are left to write.
+-- `scribe::Page::put_separated` meets its contract: the lines of the pairs to come are left to write.
 use mathlib.Core.Path.{refl, ◌∙◌}
 use mathlib.Core.List.{[], ◌∷◌, ◌++◌}
 use native.Mathlib.Omega.{arith}
@@ -8,8 +8,8 @@ use Rattle.frames.specs.declared.Frame.TheVariants.{Separate}
 use Rattle.text.specs.Content.{separates}
 use Rattle.scribe.proofs.PutLaws.{Left, all_left, room_first, less_left, none_left}
 use Rattle.scribe.proofs.TableLaws.{separates_pair, separates_none}
-use Rattle.scribe.proofs.Pen.put_separated.Goals as goal
-use Rattle.scribe.proofs.Pen.put_separated.Goals.{In-Some}
+use Rattle.scribe.proofs.Page.put_separated.Goals as goal
+use Rattle.scribe.proofs.Page.put_separated.Goals.{In-Some}
 
 pub loop-pair-init : goal.loop-pair-init
 loop-pair-init c =

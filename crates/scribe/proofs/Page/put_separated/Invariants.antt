@@ -1,9 +1,9 @@
--- `scribe::Pen::put_separated` meets its contract: the lines of the pairs to come are left to write.
+-- `scribe::Page::put_separated` meets its contract: the lines of the pairs to come are left to write.
 use mathlib.Core.Path.{◌≡◌}
 use Rattle.std.specs.Slice.Iter.{chunks_exact_rest, chunks_exact_size}
 use Rattle.text.specs.Content.{separates}
 use Rattle.scribe.proofs.PutLaws.{Left}
-use Rattle.scribe.proofs.Pen.put_separated.Given as goal
+use Rattle.scribe.proofs.Page.put_separated.Given as goal
 
 abbrev pub invariant-loop-pair : goal.invariant-loop-pair
 invariant-loop-pair l =

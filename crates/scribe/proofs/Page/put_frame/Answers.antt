@@ -1,9 +1,9 @@
--- `scribe::Pen::put_frame` meets its contract: one line more.
+-- `scribe::Page::put_frame` meets its contract: one line more.
 use mathlib.Core.Path.{refl, ap}
 use native.Mathlib.Omega.{arith}
 use lib.ListN.{length}
 use Rattle.scribe.proofs.PutLaws.{text_one}
-use Rattle.scribe.proofs.Pen.put_frame.Goals as goal
+use Rattle.scribe.proofs.Page.put_frame.Goals as goal
 
 pub put_line-self-requires : goal.put_line-self-requires
 put_line-self-requires c = omega (arith, c.requires.fits, ap length (text_one c.args.frame))

@@ -1,9 +1,9 @@
--- `scribe::Pen::put_table` meets its contract: the lines of the bytes from place i on are left to write.
+-- `scribe::Page::put_table` meets its contract: the lines of the bytes from place i on are left to write.
 use mathlib.Core.Path.{refl, ◌∙◌}
 use Rattle.scribe.proofs.PutLaws.{all_left}
 use Rattle.scribe.proofs.TableLaws.{cell_room, cell_put, cell_none, table_put}
-use Rattle.scribe.proofs.Pen.put_table.Goals as goal
-use Rattle.scribe.proofs.Pen.put_table.Goals.{then-is_present, else-is_present}
+use Rattle.scribe.proofs.Page.put_table.Goals as goal
+use Rattle.scribe.proofs.Page.put_table.Goals.{then-is_present, else-is_present}
 
 pub loop-i-init : goal.loop-i-init
 loop-i-init g c = record { same_text = refl; left = λ frame f. all_left f.room }

@@ -1,4 +1,4 @@
--- `scribe::Pen::put_table` meets its contract: the lines of the bytes from place i on are left to write.
+-- `scribe::Page::put_table` meets its contract: the lines of the bytes from place i on are left to write.
 use Prim.Native.Nat.{ℕ}
 use mathlib.Core.Path.{◌≡◌}
 use lib.ListN.{drop}
@@ -6,7 +6,7 @@ use Rattle.frames.specs.declared.Frame.{Frame}
 use Rattle.text.specs.Content.{present}
 use Rattle.scribe.specs.Put.{Frames}
 use Rattle.scribe.proofs.PutLaws.{Left}
-use Rattle.scribe.proofs.Pen.put_table.Given as goal
+use Rattle.scribe.proofs.Page.put_table.Given as goal
 
 abbrev pub invariant-loop-i : goal.invariant-loop-i
 invariant-loop-i g l =
