@@ -53,7 +53,7 @@ fn run<L: TransferList>(network: Network, list: L, marks: &mut [u32], verdicts: 
 {
     let mut counts = Tally::default();
     for k in 0..list.count() {
-        steps::step(network, list.at(k), k, marks, verdicts, &mut counts);
+        steps::step_record(network, list.at(k), k, marks, verdicts, &mut counts);
     }
     counts
 }

@@ -23,7 +23,7 @@ pub data MovesWithin (n : ℕ) : Act → Type 0 where
   no_channel : MovesWithin n NotPermitted
 
 -- counts with room for one transfer more
-pub record Countable (t : Tally) : Type 0 where
+pub record OneMore (t : Tally) : Type 0 where
   pub applied : t.applied < most_transfers
   pub outside : t.outside < most_transfers
   pub barred : t.barred < most_transfers

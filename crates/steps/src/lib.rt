@@ -1,12 +1,13 @@
 // One transfer made on marks: what it comes to, the move, its verdict byte and the counts.
 #![tactic(auto)]
 
-ghost use Rattle.std.specs.Prelude.{◌≡◌, ◌<◌, length};
+ghost use Rattle.std.specs.Prelude.{◌≡◌, ◌≤◌, ◌<◌, length};
 ghost use Rattle.answers.specs.Rows.{Bytes};
-ghost use Rattle.tables.specs.Sheet.{CountsFit, entities};
+ghost use Rattle.answers.specs.Sizes.{most_subjects, most_objects};
+ghost use Rattle.tables.specs.Sheet.{entities};
 ghost use Rattle.transfers.specs.Acts.{verdict_byte, acted};
 ghost use Rattle.transfers.specs.Transfers.{transfer, Comes};
-ghost use Rattle.steps.specs.Inner.{Tried, MovesWithin, Countable, noted, state, Steppable, Stepped};
+ghost use Rattle.steps.specs.Inner.{Tried, MovesWithin, OneMore, noted, state, Steppable, Stepped};
 
 use answers::Square;
 use tables::Counts;
@@ -17,7 +18,8 @@ use transfers::{Act, Tally, Transfer};
 pub struct Network<'a> {
     pub counts: Counts,
     pub channels: Square<'a>,
-    pub ghost fits: { CountsFit counts },
+    pub ghost few_subjects: { counts.subjects ≤ most_subjects },
+    pub ghost few_objects: { counts.objects ≤ most_objects },
     pub ghost of_entities: { channels.n ≡ entities counts },
 }
 
@@ -83,7 +85,7 @@ fn verdict(act: Act) -> u8
 // Counts an act by its verdict byte.
 #[tactic(auto, unfolding(transfers::specs::Acts::verdict_byte, crate::specs::Inner::noted))]
 fn note(counts: &mut Tally, act: Act)
-    requires { Countable counts.old }
+    requires { OneMore counts.old }
     ensures { counts.new ≡ noted counts.old (verdict_byte act) }
 {
     match act {
@@ -93,20 +95,39 @@ fn note(counts: &mut Tally, act: Act)
     }
 }
 
-// Makes transfer number k, taken apart.
+// Makes transfer number k from flat bytes: subject, object and mode.
 pub fn step(
     network: Network,
-    transfer: Transfer,
+    subject: u8,
+    object: u8,
+    mode: u8,
     k: usize,
     marks: &mut [u32],
     verdicts: &mut [u8],
     counts: &mut Tally,
 )
     requires { Steppable (entities network.counts) k (state marks verdicts counts) }
-    ensures { Stepped network.entry.counts (Bytes network.entry.channels.n network.entry.channels.bytes.now) transfer k (state marks.entry verdicts.entry counts.entry) (state marks.exit verdicts.exit counts.exit) }
+    ensures { Stepped network.entry.counts (Bytes network.entry.channels.n network.entry.channels.bytes.now) (transfer subject object mode) k (state marks.entry verdicts.entry counts.entry) (state marks.exit verdicts.exit counts.exit) }
 {
-    let act = network.come_to(transfer.subject, transfer.object, transfer.mode);
+    let act = network.come_to(subject, object, mode);
     make(marks, act);
     verdicts[k] = verdict(act);
     note(counts, act);
+}
+
+// The same of a record by value, taken apart.
+pub fn step_record(
+    network: Network,
+    t: Transfer,
+    k: usize,
+    marks: &mut [u32],
+    verdicts: &mut [u8],
+    counts: &mut Tally,
+)
+    requires { Steppable (entities network.counts) k (state marks verdicts counts) }
+    ensures { Stepped network.entry.counts (Bytes network.entry.channels.n network.entry.channels.bytes.now) t k (state marks.entry verdicts.entry counts.entry) (state marks.exit verdicts.exit counts.exit) }
+{
+    step(
+        network, t.subject, t.object, t.mode, k, marks, verdicts, counts,
+    );
 }

@@ -7,8 +7,8 @@ use Rattle.runs.proofs.run.Goals as goal
 pub loop-k-init : goal.loop-k-init
 loop-k-init g c = ran_none (search rules)
 
-pub step-requires : goal.step-requires
-step-requires g c =
+pub step_record-requires : goal.step_record-requires
+step_record-requires g c =
     let ts = g.L.TransferList.transfers c.args.list in
     let few = ran_few c.loop-k.invariant in
     let size : length (take c.loop-k.k ts) ≡ c.loop-k.k = length-take-le c.loop-k.k ts (omega arith) in
@@ -24,7 +24,7 @@ step-requires g c =
 pub loop-k-preserved : goal.loop-k-preserved
 loop-k-preserved g c =
     let e = c.at.ensures in
-    ran_more (g.L.TransferList.transfers c.args.list) no_transfer c.loop-k.k (omega arith) (omega arith) c.loop-k.invariant (rw e at c.step.ensures)
+    ran_more (g.L.TransferList.transfers c.args.list) no_transfer c.loop-k.k (omega arith) (omega arith) c.loop-k.invariant (rw e at c.step_record.ensures)
 
 pub returns : goal.returns
 returns g c = rw (take_all c.loop-k.k (g.L.TransferList.transfers c.args.list) (omega arith)) at c.loop-k.invariant
