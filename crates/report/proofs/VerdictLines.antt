@@ -27,6 +27,20 @@ use Rattle.access.proofs.Longest.{at_most_97}
 use Rattle.output.specs.Output.{VerdictLine, hold, broken}
 use Rattle.report.specs.Inner.{Printable}
 
+-- fewer of the same separations can be printed too
+pub printable_fewer : {l : Lent} {count k : ℕ} {separations : List ℕ} → k ≤ count → Printable l count separations → Printable l k separations
+printable_fewer h p =
+    record {
+      sized = p.sized;
+      listed =
+          record {
+            few = omega (arith, h, p.listed.few);
+            below = λ i g. p.listed.below i (omega (arith, h, g));
+            ascend = λ i g. p.listed.ascend i (omega (arith, h, g));
+          };
+      long = p.long;
+    }
+
 -- ---- what `judge` tells
 module _ (l : Lent) (count : ℕ) (separations chain : List ℕ) (r : Result (Option Breach) Why) (after : List ℕ) (p : Printable l count separations) (room : least_chain ≤ length chain) (call : Judges l count separations chain (judged_of r, after)) where
   -- an accepted sheet is not refused

@@ -1,11 +1,11 @@
 -- `report::put_verdict` meets its contract, where all hold and where one is broken.
 use native.Mathlib.Omega.{arith}
 use Rattle.tables.specs.Sheet.{lent_by}
-use Rattle.report.proofs.VerdictLines.{is_judged, hold_line, broken_small, broken_line}
+use Rattle.report.proofs.VerdictLines.{printable_fewer, is_judged, hold_line, broken_small, broken_line}
 use Rattle.report.proofs.put_verdict.Goals as goal
 
 pub unwrap-requires : goal.unwrap-requires
-unwrap-requires c = is_judged (lent_by c.args.sheet) _ _ _ _ _ c.requires.printable (omega arith) c.judge-judged.ensures
+unwrap-requires c = is_judged (lent_by c.args.sheet) _ _ _ _ _ (printable_fewer (omega arith) c.requires.printable) (omega arith) c.judge-judged.ensures
 
 pub returns-in-None : goal.returns-in-None
 returns-in-None c =
