@@ -52,10 +52,12 @@ def theorems(lines):
 
 
 def functions(text):
-    """Each function's name, whether it is public, and its text up to the next one."""
-    heads = list(re.finditer(r'^ *(?:#\[[^\n]*\] *)?(pub )?(?:const )?(?:extern "C" )?fn (\w+)', text, re.M))
+    """Each function's name, whether it is public, whether a trait has given it the name, and its text up to the next one."""
+    heads = list(re.finditer(r'^( *)(?:#\[[^\n]*\] *)?(pub )?(?:const )?(?:extern "C" )?fn (\w+)', text, re.M))
     for head, following in zip(heads, heads[1:] + [None]):
-        yield head[2], bool(head[1]), text[head.start() : following.start() if following else len(text)]
+        block = re.findall(r"^(?:pub )?(?:impl|trait)\b.*", text[: head.start()], re.M)
+        of_trait = bool(head[1] and re.match(r"(?:pub )?trait\b|impl\b.* for ", block[-1]))
+        yield head[3], bool(head[2]), of_trait, text[head.start() : following.start() if following else len(text)]
 
 
 class Tree:
@@ -69,11 +71,16 @@ class Tree:
         for path, text in files("crates/*/proofs/*.antt").items():
             for name, told in theorems(text.split("\n")):
                 self.theorems[crate_of(path), name] = told or self.theorems.get((crate_of(path), name), False)
+        of_traits = set()
         for path, text in files("crates/*/src/**/*.rt").items():
-            for name, public, whole in functions(text):
+            for name, public, of_trait, whole in functions(text):
                 name = "%s::%s" % (crate_of(path), name)
-                self.twice += [name] if public and name in self.functions else []
-                self.functions[name] = (public, whole)
+                # a trait gives its name to several methods, and to no other function beside them
+                again = name in self.functions
+                self.twice += [name] if again and not (of_trait and name in of_traits) else []
+                of_traits |= {name} if of_trait else set()
+                if not again:
+                    self.functions[name] = (public, whole)
 
 
 # ---- what the page cites
